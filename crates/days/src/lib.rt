@@ -1,0 +1,1 @@
+// The worked days of document 01, as theorems; no code.

@@ -1,0 +1,11 @@
+pub mod DaysLaws
+pub mod Left
+pub mod Undone
+pub mod Undoing
+pub mod Deleted
+pub mod Join
+pub mod Cut
+pub mod Posting
+pub mod PostingDay
+pub mod Refusing
+pub mod Behind

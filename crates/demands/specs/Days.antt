@@ -1,0 +1,37 @@
+-- What the statements are about: answers that accept, journals and tables that pass, days with every sale finished.
+-- Document 01, "The rules of taking back". Assumes nothing.
+use mathlib.Core.Path.{_≡_}
+use mathlib.Core.Bool.{Bool, true, false}
+use mathlib.Core.List.{List, [], _∷_}
+use Prim.Native.Nat.{ℕ}
+use mir.Syntax.{w32}
+use mir.Val.{SFits}
+use Rattle.lists.specs.Search.{any}
+use Rattle.format.specs.Bytes.{Bytes}
+use Rattle.model.specs.History.{Amount, ofTx, ended}
+use Rattle.journal.specs.Journal.{whole}
+use Rattle.journal.specs.Calls.{Answer, refused, accepted, check}
+
+-- the call is accepted
+abbrev pub accepts : {A : Type 0} → Answer A → Bool
+accepts (refused n p) = false
+accepts (accepted a) = true
+
+-- each amount is a signed 32-bit number, as the type of a table says
+pub data Amounts : List Amount → Type 0 where
+  none : Amounts []
+  amount : {a : Amount} {t : List Amount} → SFits w32 a → Amounts t → Amounts (a ∷ t)
+
+-- 01: a journal and table pass where check refuses nothing
+abbrev pub Pass : List ℕ → List Amount → Type 0
+Pass b t = accepts (check b t) ≡ true
+
+-- every sale with a record has an end
+abbrev pub Finished : List ℕ → Type 0
+Finished b = (s : ℕ) → any (ofTx s) (whole b) ≡ true → ended (whole b) s ≡ true
+
+-- a journal of bytes, with its table, that pass with every sale finished
+pub record Day (b : List ℕ) (t : List Amount) : Type 0 where
+  pub bytes : Bytes b
+  pub pass : Pass b t
+  pub finished : Finished b

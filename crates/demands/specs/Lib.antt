@@ -1,0 +1,5 @@
+pub mod Days
+pub mod Undoing
+pub mod Cut
+pub mod Posting
+pub mod Refusing

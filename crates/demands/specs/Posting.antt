@@ -1,0 +1,106 @@
+-- Demand 2, second half: what posting builds, reading accepts; every accepted journal can be built by posting from its opening table.
+-- Assumes nothing.
+use mathlib.Core.Path.{_≡_}
+use mathlib.Core.Bool.{true, cond}
+use mathlib.Core.List.{List, [], _∷_, _++_, map}
+use Prim.Native.Nat.{ℕ, zero, suc, _+_, _*_, _<_, _≤_}
+use lib.ListN.{length, take}
+use mir.Syntax.{w32}
+use mir.Val.{SFits}
+use Rattle.format.specs.declared.Record.{Record}
+use Rattle.format.specs.Bytes.{Bytes}
+use Rattle.format.specs.Layout.{recordAt}
+use Rattle.model.specs.History.{Amount, nextIn}
+use Rattle.journal.specs.Journal.{count, items, txIn, records, whole}
+use Rattle.journal.specs.Refusals.{Tally, tallied}
+use Rattle.journal.specs.Copy.{linkedTo}
+use Rattle.journal.specs.Calls.{Appended, start, append, newRecord, openingTable}
+use Rattle.demands.specs.Days.{accepts, Amounts, Pass}
+
+-- what a call of post is given, and that the types of its parameters hold it
+pub record Post : Type 0 where
+  pub kind : ℕ
+  pub tx : ℕ
+  pub item : ℕ
+  pub after : Amount
+
+pub record Given (p : Post) : Type 0 where
+  pub kind : p .kind < 256
+  pub tx : p .tx < 65536
+  pub item : p .item < 4294967296
+  pub after : SFits w32 (p .after)
+
+pub data AllGiven : List Post → Type 0 where
+  none : AllGiven []
+  given : {p : Post} {ps : List Post} → Given p → AllGiven ps → AllGiven (p ∷ ps)
+
+-- what post works on
+pub record Desk : Type 0 where
+  pub journal : List ℕ
+  pub table : List Amount
+  pub tally : Tally
+
+abbrev pub posted : Desk → Post → Appended
+posted d p = append (d .journal) (d .table) (d .tally) (p .kind) (p .tx) (p .item) (p .after)
+
+-- the desk after one post, accepted or refused
+abbrev pub next : Desk → Post → Desk
+next d p = record { journal = posted d p .journal; table = posted d p .table; tally = posted d p .tally }
+
+-- the desk after a run of posts
+unfoldable pub run : Desk → List Post → Desk
+run d [] = d
+run d (p ∷ ps) = run (next d p) ps
+
+-- the records of the accepted posts of a run, newest first, ahead of rs: kind, sale, item and after as given, a write's before the
+-- table's amount then
+unfoldable pub entered : Desk → List Post → List Record → List Record
+entered d [] rs = rs
+entered d (p ∷ ps) rs =
+    entered (next d p) ps (cond (accepts (posted d p .answer)) (newRecord (d .table) (p .kind) (p .tx) (p .item) (p .after) ∷ rs) rs)
+
+-- each post of a run is accepted
+unfoldable pub AllAccepted : Desk → List Post → Type 0
+AllAccepted d [] = Unit {0}
+AllAccepted d (p ∷ ps) = (accepts (posted d p .answer) ≡ true) × AllAccepted (next d p) ps
+
+-- a started journal, with a table and no records counted
+abbrev pub opened : List ℕ → ℕ → List Amount → Desk
+opened b m t = record { journal = start b m .journal; table = t; tally = record { reads = 0; writes = 0; commits = 0; aborts = 0 } }
+
+-- next is right at each record
+abbrev pub Chained : List ℕ → Type 0
+Chained b = (i : ℕ) → 1 ≤ i → i ≤ count b → recordAt b i .next .0 ≡ nextIn (whole b) i (txIn (recordAt b i))
+
+-- what holds of a desk after a run of posts, refused ones included
+pub record Booked (before : Desk) (ps : List Post) (d : Desk) : Type 0 where
+  pub entries : map (linkedTo 0) (records (d .journal) (count (d .journal))) ≡ entered before ps []
+  pub chained : Chained (d .journal)
+  pub pass : Pass (d .journal) (d .table)
+  pub tally : d .tally ≡ tallied (whole (d .journal))
+  pub room : length (d .journal) ≡ length (before .journal)
+
+-- What posting builds, reading accepts: for any run of posts from start, with any room, any table of item-count amounts and tally 0.
+-- It holds of each part of a run too, since that is a run.
+abbrev pub PostingReads : Type 0
+PostingReads = (b : List ℕ) (m : ℕ) (t : List Amount) (ps : List Post) → Bytes b → accepts (start b m .answer) ≡ true → length t ≡ m
+    → Amounts t → AllGiven ps → Booked (opened b m t) ps (run (opened b m t) ps)
+
+-- the posts of a journal's first n records, in order
+unfoldable pub postsOf : List ℕ → ℕ → List Post
+postsOf b zero = []
+postsOf b (suc n) =
+    let r : Record = recordAt b (suc n) in
+    postsOf b n ++ record { kind = r .kind; tx = txIn r; item = r .item .0; after = r .after } ∷ []
+
+-- the desk that holds a journal's first bytes and its table, from a started journal with room z and the opening table
+pub record Rebuilt (b : List ℕ) (t : List Amount) (z : List ℕ) : Type 0 where
+  pub started : accepts (start z (items b) .answer) ≡ true
+  pub accepted : AllAccepted (opened z (items b) (openingTable b t)) (postsOf b (count b))
+  pub journal : take (20 * (count b + 1)) (run (opened z (items b) (openingTable b t)) (postsOf b (count b)) .journal) ≡ take (20 * (count b + 1)) b
+  pub table : run (opened z (items b) (openingTable b t)) (postsOf b (count b)) .table ≡ t
+
+-- Every journal and table that pass, open sales included, are what start and then posting their records in order from the opening
+-- table build, byte for byte over the journal's length, each post accepted.
+abbrev pub Rebuilding : Type 0
+Rebuilding = (b : List ℕ) (t : List Amount) (z : List ℕ) → Bytes b → Bytes z → Pass b t → 20 * (count b + 1) ≤ length z → Rebuilt b t z

@@ -1,0 +1,31 @@
+-- Signed numbers of 32 bits from their bits and back, as the code computes them.
+-- Assumes nothing.
+use Prim.Native.Nat.{ℕ, zero, suc, _-_, _≤_, _<_}
+use native.Mathlib.Nat.{zero-add}
+use native.Mathlib.Omega.{arith}
+use mathlib.Core.Path.{_≡_, refl, ap}
+use mathlib.Core.Bool.{true, false}
+use lib.IntN.{ℤ, pos, negsuc, natAbs, _-ℤ_}
+use lib.Dec.{T}
+use lib.Signed.{leZ, nonNeg}
+use borrow.Author.Tests.{le-ltb, le-leb}
+use mir.Syntax.{w32}
+use mir.Val.{toZ, ofZ, SFits, Fits}
+use mir.ValLaws.{toZ-pos}
+
+-- one less than the negation of n
+pub less-one : (n : ℕ) → negsuc 0 -ℤ pos n ≡ negsuc n
+less-one zero = refl
+less-one (suc n) = ap (λ (m : ℕ). negsuc (suc m)) (zero-add n)
+
+pub upper : (x : ℕ) → 2147483648 ≤ x → x < 4294967296 → negsuc 0 -ℤ toZ w32 (4294967295 - x) ≡ toZ w32 x
+upper x h k =
+    rw (toZ-pos w32 (4294967295 - x) (omega arith), less-one, le-ltb x 2147483648 h) (ap negsuc (omega arith))
+
+pub at-least-zero : (z : ℤ) → SFits w32 z → leZ (pos 0) z ≡ true → (T (nonNeg z) × Fits w32 (natAbs z)) × (natAbs z ≡ ofZ w32 z)
+at-least-zero (pos n) f t = ((tt, record { fits = omega (arith, f .sfits) }), refl)
+at-least-zero (negsuc n) f t = let e : _≡_ {A = ℕ} 0 1 = cc in absurd (omega arith)
+
+pub below-zero : (z : ℤ) → SFits w32 z → leZ (pos 0) z ≡ false → (k : ℕ) × (negsuc 0 -ℤ z ≡ pos k) × (k < 2147483648) × (4294967295 - k ≡ ofZ w32 z)
+below-zero (pos n) f t = let e : _≡_ {A = ℕ} 0 1 = cc (le-leb 0 n (omega arith)) in absurd (omega arith)
+below-zero (negsuc k) f t = (k, rw (le-ltb (suc k) 1 (omega arith)) (ap pos (omega arith)), f .sfits, omega arith)

@@ -1,0 +1,10 @@
+pub mod OrdersLaws
+pub mod Clear
+pub mod Records
+pub mod Encoded
+pub mod Checked
+pub mod Stored
+pub mod Unrefused
+pub mod Passing
+pub mod Appending
+pub mod Relinked

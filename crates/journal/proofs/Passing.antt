@@ -1,0 +1,65 @@
+-- A journal that passes 1, 2 and 4 to 9, as a history that passes the rules, and back.
+-- Assumes nothing.
+use mathlib.Core.Path.{_≡_}
+use mathlib.Core.Bool.{false}
+use mathlib.Core.List.{List, _∷_}
+use Prim.Native.Nat.{ℕ, suc, _<_, _≤_}
+use native.Mathlib.Omega.{arith}
+use lib.Dec.{leb}
+use borrow.Author.Tests.{leb-true}
+use Rattle.lists.proofs.BoolLaws.{and-left, and-right}
+use Rattle.format.specs.declared.Record.{Record}
+use Rattle.format.specs.Layout.{recordAt}
+use Rattle.model.specs.History.{Op, History}
+use Rattle.model.specs.Undo.{Upto, all, more}
+use Rattle.model.proofs.Opening.{Passes, Passing, step}
+use Rattle.journal.specs.Journal.{count, items, txIn, whole}
+use Rattle.journal.specs.Refusals.{short, torn, badHead, malformed, unchained, closed, crossed, blind, mismatched}
+use Rattle.journal.proofs.Checked.{Sound}
+use Rattle.journal.proofs.Unrefused.{head-headed, formed, record-upto, sound-passing}
+
+pub passing-whole : (b : List ℕ) → Sound b → Passing (whole b)
+unfolding whole
+passing-whole b s = sound-passing s (count b) (omega arith)
+
+passing-upto : {r : Op} {p j : History} → Passing j → Upto (r ∷ p) j → Passes p r
+passing-upto (step k l) all = l
+passing-upto (step k l) (more i) = passing-upto k i
+
+-- what each record needs beside the rules
+pub sound-from : (b : List ℕ) → short b ≡ false → badHead b ≡ false → torn b ≡ false
+    → ((i : ℕ) → i < count b → malformed (items b) (recordAt b (suc i)) ≡ false) → ((i : ℕ) → i < count b → unchained b (suc i) ≡ false)
+    → Passing (whole b) → Sound b
+unfolding closed crossed blind mismatched whole
+sound-from b l h w m u k =
+    record {
+      long = l;
+      head = h;
+      full = w;
+      right = λ i n.
+          let p = passing-upto k (record-upto b i (count b) n) in
+          record { formed = m i n; chained = u i n; unclosed = p .closed; uncrossed = p .uncrossed; sighted = p .sighted; matched = p .matched };
+    }
+
+-- ---- the head
+
+pub record HeadFacts (b : List ℕ) : Type 0 where
+  pub few : count b ≤ 3200
+  pub some : 1 ≤ items b
+  pub most : items b ≤ 1024
+
+pub head-facts : (b : List ℕ) → badHead b ≡ false → HeadFacts b
+unfolding count items
+head-facts b h =
+    let e = head-headed b h in
+    record {
+      few = e .count;
+      some = leb-true _ _ (and-left (leb 1 (recordAt b 0 .item .0)) _ (e .items));
+      most = leb-true _ _ (and-right (leb 1 (recordAt b 0 .item .0)) _ (e .items));
+    }
+
+-- a right record's transaction is from 1 to 1,024
+pub malformed-tx : (n : ℕ) (r : Record) → malformed n r ≡ false → (1 ≤ txIn r) × (txIn r ≤ 1024)
+malformed-tx n r h =
+    let w = formed n r h .tx in
+    (leb-true _ _ (and-left (leb 1 (txIn r)) _ w), leb-true _ _ (and-right (leb 1 (txIn r)) _ w))

@@ -1,0 +1,6 @@
+pub mod Journal
+pub mod Refusals
+pub mod Orders
+pub mod Copy
+pub mod Calls
+pub mod Reasons

@@ -1,0 +1,4 @@
+pub mod BoolLaws
+pub mod SearchLaws
+pub mod TablesLaws
+pub mod MemberLaws

@@ -1,0 +1,26 @@
+-- Lists made by index, parts of a list stored anew, and how many indices pass a test.
+-- Assumes nothing.
+use mathlib.Core.Bool.{Bool, cond}
+use mathlib.Core.List.{List, [], _∷_, _++_}
+use Prim.Native.Nat.{ℕ, zero, suc, _+_}
+use lib.ListN.{length, take, drop}
+
+module _ {A : Type 0} where
+  -- f i, f (i + 1), .. : n elements
+  unfoldable pub tabulate : (ℕ → A) → ℕ → ℕ → List A
+  tabulate f i zero = []
+  tabulate f i (suc n) = f i ∷ tabulate f (suc i) n
+
+  -- the lists f i, f (i + 1), .., n of them, joined
+  unfoldable pub each : (ℕ → List A) → ℕ → ℕ → List A
+  each f i zero = []
+  each f i (suc n) = f i ++ each f (suc i) n
+
+  -- l with v in place of what stands from `at` on
+  unfoldable pub store : ℕ → List A → List A → List A
+  store at v l = take at l ++ v ++ drop (at + length v) l
+
+-- how many of i, i + 1, .., n numbers, pass
+unfoldable pub number : (ℕ → Bool) → ℕ → ℕ → ℕ
+number f i zero = 0
+number f i (suc n) = let k : ℕ = number f (suc i) n in cond (f i) (suc k) k

@@ -1,0 +1,1 @@
+// Definitions and laws over any list; no code.

@@ -1,0 +1,10 @@
+pub mod Closure
+pub mod Removal
+pub mod Legal
+pub mod Strict
+pub mod Repair
+pub mod Join
+pub mod Renumber
+pub mod Opening
+pub mod Sets
+pub mod Extension

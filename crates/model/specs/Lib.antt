@@ -1,0 +1,3 @@
+pub mod History
+pub mod Rules
+pub mod Undo

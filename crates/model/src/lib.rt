@@ -1,0 +1,1 @@
+// Transaction histories and selective undo, without bytes; no code.
