@@ -6,9 +6,9 @@ use mathlib.Core.List.{List, _++_}
 use Prim.Native.Nat.{ℕ, _<_}
 use native.Mathlib.Omega.{arith}
 use lib.IntN.{pos}
-use lib.ListN.{length}
+use lib.ListN.{length, drop}
 use lib.Seq.{ext-getD}
-use Rattle.lists.specs.Tables.{tabulate}
+use Rattle.lists.specs.Tables.{tabulate, number}
 use Rattle.format.specs.Bytes.{Bytes}
 use Rattle.model.specs.History.{Amount, abortOf, committed, aborted, current}
 use Rattle.model.specs.Undo.{undone, surviving, only, survivors, renumber, repaired, replayed}
@@ -16,12 +16,14 @@ use Rattle.model.proofs.Closure.{EndsLast}
 use Rattle.model.proofs.Strict.{legal-closed}
 use Rattle.model.proofs.Renumber.{surviving-renumber, repaired-renumber, committed-renumber, any-renumber, abortOf-untagged}
 use Rattle.model.proofs.Join.{surviving-joined, survivors-joined, survivors-committed, surviving-less}
-use Rattle.model.proofs.Sets.{undone-surviving, survivors-unaborted}
+use Rattle.model.proofs.Sets.{undone-surviving, survivors-unaborted, surviving-cong}
 use Rattle.journal.specs.Journal.{count, items, records, whole}
 use Rattle.journal.specs.Copy.{copied, copyRecords, journalOf, copy}
-use Rattle.journal.specs.Calls.{openingAt, tableLeft}
+use Rattle.journal.specs.Calls.{openingAt, tableLeft, accepted, Counts, counts, statuses, statusOf}
 use Rattle.journal.proofs.Records.{copied-copied}
 use Rattle.journal.proofs.Checked.{Checks}
+use Rattle.demands.specs.Undoing.{SameNames}
+use Rattle.demands.proofs.Undone.{clear-accepting, clear-named, undo-accepts, undo-answer, undo-table, undo-status, undo-out}
 use Rattle.demands.proofs.Left.{legal-day, copy-bytes, copy-items, copy-records, copy-whole, copy-checks, copy-opening, left-length, left-amount}
 
 -- ---- lists that keep the same transactions leave the same
@@ -40,6 +42,29 @@ module _ (b l m : List ℕ) (same : (s : ℕ) → surviving l (whole b) s ≡ su
 
   pub undone-same : (s : ℕ) → undone l (whole b) s ≡ undone m (whole b) s
   undone-same s = undone-surviving l (whole b) s ∙ ap (λ k. committed (whole b) s && not k) (same s) ∙ sym (undone-surviving m (whole b) s)
+
+  pub counts-same : counts l b ≡ counts m b
+  unfolding counts
+  counts-same = rw copy-same (λ i. record { surviving = number (fun-same i) 1 1024; undone = number (fun-ext undone-same i) 1 1024; aborted = number (aborted (whole b)) 1 1024; bytes = length (copy m b) })
+
+  pub statuses-same : statuses l (whole b) ≡ statuses m (whole b)
+  unfolding statuses
+  statuses-same = λ i. tabulate (statusOf (fun-ext undone-same i) (fun-same i)) 0 1025
+
+-- ---- an accepted call depends on the list's members alone
+
+pub same-names : SameNames
+same-names b t bad names status out members e =
+    let c = undo-accepts b t bad status out e in
+    let a = clear-accepting b t bad status out c in
+    let k : (s : ℕ) → surviving bad (whole b) s ≡ surviving names (whole b) s = surviving-cong bad names members (whole b) in
+    let d = clear-named b t bad names status out (λ s m. a .names s (members s ∙ m)) (ap length (copy-same b bad names k)) c in
+    λ i. record {
+      answer = (undo-answer b t bad status out c ∙ ap accepted (counts-same b bad names k) ∙ sym (undo-answer b t names status out d)) i;
+      table = (undo-table b t bad status out c ∙ left-same b bad names k t ∙ sym (undo-table b t names status out d)) i;
+      status = (undo-status b t bad status out c ∙ statuses-same b bad names k ∙ sym (undo-status b t names status out d)) i;
+      out = (undo-out b t bad status out c ∙ ap (λ w. w ++ drop (length w) out) (copy-same b bad names k) ∙ sym (undo-out b t names status out d)) i;
+    }
 
 -- ---- the second take-back
 

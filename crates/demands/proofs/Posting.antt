@@ -13,12 +13,14 @@ use lib.Seq.{ext-getD}
 use mir.Syntax.{w32}
 use mir.Val.{SFits}
 use borrow.Author.Tests.{eq-eqb, le-ltb}
+use Rattle.lists.specs.Tables.{tabulate}
 use Rattle.lists.proofs.BoolLaws.{byCases}
+use Rattle.lists.proofs.TablesLaws.{tabulate-getD}
 use Rattle.format.specs.declared.Record.{Record}
 use Rattle.format.specs.Bytes.{Bytes}
 use Rattle.format.specs.Layout.{recordAt, Fitting}
 use Rattle.format.proofs.LayoutLaws.{recordAt-fitting}
-use Rattle.model.specs.History.{Op, Amount, current}
+use Rattle.model.specs.History.{Op, Amount, current, initial}
 use Rattle.model.proofs.Extension.{settled-current}
 use Rattle.journal.specs.Journal.{count, items, txIn, opOf, records, history, whole, amountAt}
 use Rattle.journal.specs.Refusals.{within, short, badItems, Tally, sameTally, tallied, malformed, wrongTally}
@@ -30,7 +32,7 @@ use Rattle.journal.proofs.Clear.{Clear, decide-clear, clear-decide}
 use Rattle.journal.proofs.Checked.{Checks}
 use Rattle.journal.proofs.Stored.{record-path}
 use Rattle.journal.proofs.Unrefused.{room, room-for, head-headed, count-bound, table-length, formed, formed-cases, malformed-linkedTo, chained-next, settled-amount, before-standing}
-use Rattle.journal.proofs.Appending.{start-clear, amount-tableAfter, length-openingTable, amount-openingTable, Enters, append-clear, clear-appended, length-extended, extended-bytes, items-extended, whole-extended, records-extended, tallied-extended, checks-extended, fits-tableAfter, start-accepted, length-started, started-bytes, count-started, items-started, whole-started, checks-started}
+use Rattle.journal.proofs.Appending.{start-clear, amount-tableAfter, length-openingTable, amount-openingTable, Enters, append-clear, clear-appended, length-extended, extended-bytes, items-extended, whole-extended, records-extended, tallied-extended, checks-extended, fits-tableAfter, start-accepted, length-started, started-bytes, count-started, items-started, whole-started, checks-started, opening-extended}
 use Rattle.journal.proofs.Relinked.{count-linked, whole-linked, same-bytes}
 use Rattle.demands.specs.Days.{accepts, Amounts, none, amount}
 use Rattle.demands.specs.Posting.{Post, Given, AllGiven, none, given, Desk, posted, next, run, entered, AllAccepted, opened, Chained, PostingReads, postsOf, Rebuilding}
@@ -128,6 +130,10 @@ module _ (d : Desk) (p : Post) (g : Good d) (c : Clear (appendOrder (d .journal)
   records-next : map (linkedTo 0) (records (next d p .journal) (count (next d p .journal))) ≡ entry d p ∷ map (linkedTo 0) (records (d .journal) (count (d .journal)))
   records-next = ap (λ b. map (linkedTo 0) (records b (count b))) (next-journal d p c) ∙ records-extended (d .journal) (entry d p) long small f
 
+  opening-next : openingTable (next d p .journal) (next d p .table) ≡ openingTable (d .journal) (d .table)
+  opening-next =
+      rw (next-journal d p c, next-table d p c) (opening-extended (d .journal) (d .table) (entry d p) (g .checks) enters f refl (entry-before d p))
+
   fits-next : ((x : ℕ) → SFits w32 (amountAt (d .table) x)) → (x : ℕ) → SFits w32 (amountAt (next d p .table) x)
   fits-next h x = rw (next-table d p c) (fits-tableAfter (d .journal) (d .table) (suc (count (d .journal))) (entry d p) (g .bytes) f h x)
 
@@ -153,18 +159,20 @@ entry-fits d p h g =
 record Kept (before : Desk) (d : Desk) (rs : List Record) : Type 0 where
   entries : map (linkedTo 0) (records (d .journal) (count (d .journal))) ≡ rs
   good : Good d
+  items : items (d .journal) ≡ items (before .journal)
+  opening : openingTable (d .journal) (d .table) ≡ openingTable (before .journal) (before .table)
   room : length (d .journal) ≡ length (before .journal)
 
 run-kept : (d : Desk) {ps : List Post} (rs : List Record) → Good d → ((x : ℕ) → SFits w32 (amountAt (d .table) x)) → AllGiven ps
     → map (linkedTo 0) (records (d .journal) (count (d .journal))) ≡ rs → Kept d (run d ps) (entered d ps rs)
 unfolding run entered
-run-kept d rs g h none e = record { entries = e; good = g; room = refl }
+run-kept d rs g h none e = record { entries = e; good = g; items = refl; opening = refl; room = refl }
 run-kept d rs g h (given {p} {ps} w ws) e =
     byCases (accepts (posted d p .answer))
     (λ a. let c = accepted-clear d p a in
     let f = entry-fits d p h w in
     let k = run-kept (next d p) (entry d p ∷ rs) (good-next d p g c f) (fits-next d p g c f h) ws (records-next d p g c f ∙ ap (λ l. entry d p ∷ l) e) in
-    rw a (record { entries = k .entries; good = k .good; room = k .room ∙ length-next d p g c f }))
+    rw a (record { entries = k .entries; good = k .good; items = k .items ∙ items-next d p g c f; opening = k .opening ∙ opening-next d p g c f; room = k .room ∙ length-next d p g c f }))
     (λ a. rw (a, refused-next d p a) (run-kept d rs g h ws e))
 
 tallied-none : tallied [] ≡ record { reads = 0; writes = 0; commits = 0; aborts = 0 }
@@ -180,6 +188,12 @@ records-opened : (b : List ℕ) (m : ℕ) → accepts (start b m .answer) ≡ tr
 unfolding records
 records-opened b m a = rw (count-started b m (started-clear b m a))
 
+-- with no records the opening table is the table
+opening-opened : (b : List ℕ) (m : ℕ) (t : List Amount) → accepts (start b m .answer) ≡ true → openingTable (start b m .journal) t ≡ t
+unfolding openingTable openingAt
+opening-opened b m t a =
+    ap (λ j. tabulate (λ x. initial (amountAt t x) j x) 0 (length t)) (whole-started b m (started-clear b m a)) ∙ tabulate-getD t (pos 0)
+
 checks-chained : {b : List ℕ} {t : List Amount} → Checks b t → Chained b
 checks-chained k zero l h = absurd (omega arith)
 checks-chained {b} k (suc i) l h = chained-next b (suc i) (k .sound .right i h .chained)
@@ -193,6 +207,8 @@ posting-reads b m t ps k a e n gs =
       chained = checks-chained (w .good .checks);
       pass = checks-pass _ _ (w .good .checks);
       tally = w .good .tally;
+      items = w .items;
+      opening = w .opening ∙ opening-opened b m t a;
       room = w .room;
     }
 

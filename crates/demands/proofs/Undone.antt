@@ -10,7 +10,7 @@ use lib.Dec.{eqb, ltb}
 use lib.ListN.{length, getD, drop}
 use lib.Seq.{take-at, drop-at}
 use borrow.Author.Tests.{eqb-true, eq-eqb, ltb-false, le-ltb, not-false}
-use Rattle.lists.specs.Search.{any}
+use Rattle.lists.specs.Search.{any, member}
 use Rattle.lists.specs.Tables.{each}
 use Rattle.lists.proofs.BoolLaws.{byCases}
 use Rattle.lists.proofs.MemberLaws.{member-at, member-place}
@@ -112,6 +112,19 @@ module _ (b : List ℕ) (t : List Amount) (bad status out : List ℕ) where
     pub undo-behind : drop (counts bad b .bytes) (undo b t bad status out .out) ≡ drop (counts bad b .bytes) out
     unfolding counts
     undo-behind = rw undo-out (drop-at (copy bad b) _ (length (copy bad b)) refl)
+
+-- another list in a clear order, that names only committed transactions and whose copy is as long
+pub clear-named : (b : List ℕ) (t : List Amount) (bad names status out : List ℕ) → ((s : ℕ) → member s names ≡ true → committed (whole b) s ≡ true)
+    → length (copy bad b) ≡ length (copy names b) → Clear (undoOrder b t bad status out (length (copy bad b))) → Clear (undoOrder b t names status out (length (copy names b)))
+unfolding undoOrder unknown active-order named-order
+clear-named b t bad names status out known e c =
+    let o2 = checkOrder b t ++ active-order b t bad status out ++ try 13 0 (wrongStatus status) in
+    let c1 = clear-left (o2 ++ named-order b t bad status out) (try 14 0 (tooShort out (length (copy bad b)))) c in
+    clear-append
+    (clear-append (clear-left o2 (named-order b t bad status out) c1)
+    (clear-each (λ k. try 12 k (unknown b (getD names k 0))) 0 (length names) (λ k l n.
+    let q : committed (whole b) (getD names k 0) ≡ true = known (getD names k 0) (member-at names k (omega arith)) in clear-try 12 k _ (rw q))))
+    (rw (← e) (clear-right (o2 ++ named-order b t bad status out) (try 14 0 (tooShort out (length (copy bad b)))) c))
 
 -- an accepted call: its order is clear, and its counts are the definition's
 pub accepted-clear : {b : List ℕ} {t : List Amount} {bad status out : List ℕ} {n : Counts} → Accepted b t bad status out n

@@ -78,6 +78,8 @@ pub record Booked (before : Desk) (ps : List Post) (d : Desk) : Type 0 where
   pub chained : Chained (d .journal)
   pub pass : Pass (d .journal) (d .table)
   pub tally : d .tally ≡ tallied (whole (d .journal))
+  pub items : items (d .journal) ≡ items (before .journal)
+  pub opening : openingTable (d .journal) (d .table) ≡ before .table
   pub room : length (d .journal) ≡ length (before .journal)
 
 -- What posting builds, reading accepts: for any run of posts from start, with any room, any table of item-count amounts and tally 0.

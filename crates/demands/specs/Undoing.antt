@@ -40,6 +40,12 @@ abbrev pub NeverShort : Type 0
 NeverShort = (b : List ℕ) (t : List Amount) (bad status out : List ℕ) (place : ℕ) → Day b t → 20 * (count b + 1) ≤ length out
     → undo b t bad status out .answer ≡ refused 14 place → ⊥
 
+-- A repeated number in the list means the same as one: an accepted call depends on the list's members alone, whatever their order and
+-- number.
+abbrev pub SameNames : Type 0
+SameNames = (b : List ℕ) (t : List Amount) (bad names status out : List ℕ) → ((s : ℕ) → member s bad ≡ member s names)
+    → accepts (undo b t bad status out .answer) ≡ true → undo b t bad status out ≡ undo b t names status out
+
 -- ---- 2. what is left passes
 
 -- an accepted call on a day, with the counts that it answers

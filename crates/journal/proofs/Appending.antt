@@ -12,16 +12,16 @@ use borrow.Author.Tests.{eqb-true, eqb-false, ne-eqb, ltb-true, ltb-false, leb-t
 use mir.Syntax.{w32}
 use mir.Val.{SFits}
 use Rattle.lists.specs.Search.{latest}
-use Rattle.lists.specs.Tables.{store}
+use Rattle.lists.specs.Tables.{store, tabulate}
 use Rattle.lists.proofs.BoolLaws.{byCases, clash, and-right, not-neither}
-use Rattle.lists.proofs.TablesLaws.{length-tabulate, getD-tabulate, length-store, drop-store}
+use Rattle.lists.proofs.TablesLaws.{length-tabulate, getD-tabulate, length-store, drop-store, tabulate-ext}
 use Rattle.format.specs.declared.Record.{Record}
 use Rattle.format.specs.Bytes.{Bytes, bytes}
 use Rattle.format.specs.Layout.{bytesOf, recordAt, Fitting}
 use Rattle.format.proofs.BytesLaws.{Bytes-store, length-bytes, bytes-bytes}
 use Rattle.format.proofs.LayoutLaws.{recordAt-fitting, length-bytesOf, bytesOf-bytes}
-use Rattle.model.specs.History.{Op, History, Amount, Tag, tagOf, beforeOf, afterOf, tagIn, ofTx, applied, nextIn}
-use Rattle.model.proofs.Extension.{latest-tag, next-last, next-extended, settled-extended, matched-extended, Befores, applied-all}
+use Rattle.model.specs.History.{Op, History, Amount, Tag, tagOf, beforeOf, afterOf, tagIn, ofTx, applied, nextIn, writeTo, initial}
+use Rattle.model.proofs.Extension.{latest-tag, next-last, next-extended, settled-extended, matched-extended, Befores, applied-all, initial-extended}
 use Rattle.journal.specs.Journal.{count, items, txIn, opOf, records, history, whole, amountAt}
 use Rattle.journal.specs.Copy.{headWith, linkedTo}
 use Rattle.journal.specs.Refusals.{Tally, tallied, within, short, torn, badItems, malformed, closed, crossed, blind, mismatched, noRoom, wrongTally}
@@ -399,6 +399,25 @@ module _ (b : List ℕ) (t : List Amount) (r : Record) (k : Checks b t) (e : Ent
             (rw (whole-extended b r long small fit, amount-tableAfter p o t x (omega arith))
             (settled-extended (amountAt t x) o p x (settled-amount b t x (k .settled x l))));
       }
+
+  before-new : (x : ℕ) → writeTo x (opOf (suc (count b)) r) ≡ true → beforeOf (opOf (suc (count b)) r) (amountAt t x) ≡ amountAt t x
+  before-new x =
+      formed-cases (items b) r (e .formed)
+      (λ a l z. rw (opOf-read (suc (count b)) r a) (λ h. clash h refl))
+      (λ a l. rw (opOf-write (suc (count b)) r a) (λ h. before a ∙ ap (amountAt t) (sym (eqb-true x (r .item .0) h))))
+      (λ a z. rw (opOf-commit (suc (count b)) r a) (λ h. clash h refl))
+      (λ a z. rw (opOf-abort (suc (count b)) r a) (λ h. clash h refl))
+
+  -- the opening table stays
+  pub opening-extended : openingTable (extended b r) (tableAfter (whole b) (opOf (suc (count b)) r) t) ≡ openingTable b t
+  unfolding openingTable openingAt
+  opening-extended =
+      let p : History = whole b in
+      let o : Op = opOf (suc (count b)) r in
+      ap (λ n. tabulate (λ x. initial (amountAt (tableAfter p o t) x) (whole (extended b r)) x) 0 n) (length-tableAfter p o t)
+      ∙ tabulate-ext _ _ 0 0 (length t)
+      (λ x h. let q : 0 + x ≡ x = omega arith in
+      rw (q, whole-extended b r long small fit, amount-tableAfter p o t x h) (initial-extended (amountAt t x) o p x (before-new x)))
 
 -- ---- amounts stay signed 32-bit numbers
 

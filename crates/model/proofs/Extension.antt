@@ -12,12 +12,12 @@ use lib.Dec.{eqb, ltb}
 use borrow.Author.Tests.{eqb-true, eqb-false, eq-eqb, ne-eqb, lt-ltb, le-ltb}
 use Rattle.lists.specs.Search.{any, latest, orElse, first}
 use Rattle.lists.proofs.BoolLaws.{byCases, clash, not-neither}
-use Rattle.lists.proofs.SearchLaws.{first-none, first-old}
+use Rattle.lists.proofs.SearchLaws.{first-none, first-some, first-old}
 use Rattle.model.specs.History.{Op, History, Amount, Tag, sameAmount, read, write, commit, abort, other, txOf, tagOf, beforeOf, afterOf, ofTx, writeOf, writeTo, beforeIn, applied, current, initial, standing, laterOf, tagIn, nextIn}
 use Rattle.model.specs.Rules.{mismatched}
 use Rattle.model.specs.Undo.{Upto, all, more}
 use Rattle.model.proofs.Legal.{LegalStep, Legal}
-use Rattle.model.proofs.Repair.{stand-unwritten}
+use Rattle.model.proofs.Repair.{stand-unwritten, write-writes}
 use Rattle.model.proofs.Opening.{same-refl, current-written, current-step}
 
 -- ---- the chain
@@ -148,3 +148,30 @@ applied-all P (other t s) p x v n h k = k
 pub legal-at : (o : ℕ → Amount) {r : Op} {p j : History} → Legal o j → Upto (r ∷ p) j → LegalStep o p r
 legal-at o k all = k .1
 legal-at o k (more i) = legal-at o (k .0) i
+
+-- ---- the opening amount
+
+beforeOf-write : (x : ℕ) (q : Op) → writeTo x q ≡ true → (d e : Amount) → beforeOf q d ≡ beforeOf q e
+beforeOf-write x (read t s y) h d e = clash h refl
+beforeOf-write x (write t s y b a) h d e = refl
+beforeOf-write x (commit t s) h d e = clash h refl
+beforeOf-write x (abort t s) h d e = clash h refl
+beforeOf-write x (other t s) h d e = clash h refl
+
+-- an operation that does not write the item leaves it, where it was never written
+applied-unwritten : (r : Op) (p : History) (x : ℕ) (v : Amount) → any (writeTo x) p ≡ false → writeTo x r ≡ false → applied r p x v ≡ v
+applied-unwritten (read t s y) p x v n h = refl
+applied-unwritten (write t s y b a) p x v n h = rw h
+applied-unwritten (commit t s) p x v n h = refl
+applied-unwritten (abort t s) p x v n h = ap (λ w. beforeIn w v) (first-none (writeOf s x) p (write-writes x s p n))
+applied-unwritten (other t s) p x v n h = refl
+
+-- one operation more leaves the opening amount, if the first write of the item has it as its before image
+pub initial-extended : (v : Amount) (r : Op) (p : History) (x : ℕ) → (writeTo x r ≡ true → beforeOf r v ≡ v) → initial (applied r p x v) (r ∷ p) x ≡ initial v p x
+initial-extended v r p x h =
+    byCases (any (writeTo x) p)
+    (λ w. let (q, e, f) = first-some (writeTo x) p w in rw (first-old (writeTo x) r p w, e) (beforeOf-write x q f (applied r p x v) v))
+    (λ n. let e = first-none (writeTo x) p n in
+    byCases (writeTo x r)
+    (λ f. rw (f, e) (beforeOf-write x r f (applied r p x v) v ∙ h f))
+    (λ f. rw (f, e) (applied-unwritten r p x v n f)))

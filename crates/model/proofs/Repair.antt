@@ -148,16 +148,16 @@ module _ (o : ℕ → Amount) (l : List ℕ) (j : History) (k : Legal o j) where
 
 -- ---- the opening amounts
 
-module _ (o : ℕ → Amount) (x : ℕ) where
-  write-writes : (s : ℕ) (p : History) → any (writeTo x) p ≡ false → any (writeOf s x) p ≡ false
-  write-writes s p h = byCases (any (writeOf s x) p) (λ q. clash (any-mono (writeOf s x) (writeTo x) (write-to s x) p q) h) (λ q. q)
+pub write-writes : (x s : ℕ) (p : History) → any (writeTo x) p ≡ false → any (writeOf s x) p ≡ false
+write-writes x s p h = byCases (any (writeOf s x) p) (λ q. clash (any-mono (writeOf s x) (writeTo x) (write-to s x) p q) h) (λ q. q)
 
+module _ (o : ℕ → Amount) (x : ℕ) where
   pub stand-unwritten : (p : History) → any (writeTo x) p ≡ false → stand o p x ≡ o x
   stand-unwritten [] h = refl
   stand-unwritten (read t s y ∷ p) h = stand-unwritten p h
   stand-unwritten (write t s y b a ∷ p) h = rw (or-false-left (eqb x y) _ h) (stand-unwritten p (or-false-right (eqb x y) _ h))
   stand-unwritten (commit t s ∷ p) h = stand-unwritten p h
-  stand-unwritten (abort t s ∷ p) h = rw (first-none (writeOf s x) p (write-writes s p h)) (stand-unwritten p h)
+  stand-unwritten (abort t s ∷ p) h = rw (first-none (writeOf s x) p (write-writes x s p h)) (stand-unwritten p h)
   stand-unwritten (other t s ∷ p) h = stand-unwritten p h
 
   first-before : (p : History) → Legal o p → any (writeTo x) p ≡ true → (d : Amount) → beforeIn (first (writeTo x) p) d ≡ o x
