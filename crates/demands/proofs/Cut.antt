@@ -7,7 +7,7 @@ use Prim.Native.Nat.{ℕ, suc, _+_, _≤_}
 use native.Mathlib.Omega.{arith}
 use native.Mathlib.Nat.{add-zero}
 use lib.Dec.{eqb}
-use lib.ListN.{length, getD}
+use lib.ListN.{length}
 use borrow.Author.Tests.{eqb-true}
 use Rattle.lists.specs.Search.{any, keep, member}
 use Rattle.lists.specs.Tables.{number}
@@ -26,9 +26,10 @@ use Rattle.journal.specs.Copy.{copy}
 use Rattle.journal.specs.Calls.{Answer, refused, accepted, Counts, Undone, undo, counts, openingAt, tableLeft}
 use Rattle.journal.proofs.Clear.{Clear}
 use Rattle.journal.proofs.Checked.{Checks}
-use Rattle.demands.specs.Days.{Day}
+use Rattle.demands.specs.Days.{accepts, Day}
 use Rattle.demands.specs.Undoing.{copyIn, takenBack}
-use Rattle.demands.specs.Cut.{Call, Done, Course, begin, took, struck, called, handed, run, once, joined, times, total, Same, Cut, CutList}
+use Rattle.demands.specs.Cut.{Call, Done, Course, begin, took, struck, called, handed, run, once, joined, times, total, OnceJoins, Same, Cut, CutList}
+use Rattle.demands.proofs.Refusing.{untouched}
 use Rattle.demands.proofs.Left.{legal-day, copy-bytes, copy-checks, copy-ended}
 use Rattle.demands.proofs.DaysLaws.{pass-checks, checks-pass}
 use Rattle.demands.proofs.Undone.{clear-accepting, undo-table, undo-copy, undo-answer, accepting-clear, accepted-clear}
@@ -212,7 +213,7 @@ module _ (b : List ℕ) (t : List Amount) (day : Day b t) where
   by-answer c k P f g = go (called c k .answer) refl
     where
       go : (a : Answer Counts) → called c k .answer ≡ a → P (handed c k (called c k) a)
-      go (refused n p) e = f
+      go (refused n p) e = rw (untouched .undo (c .journal) (c .table) (struck (c .calls) (k .bad)) (k .status) (k .out) (ap accepts e) .0) f
       go (accepted n) e = g n e
 
   inv-after : (j : List ℕ) (u : List Amount) (d : Done) (ds : List Done) (h : Holds (joined (d ∷ ds)) (record { journal = j; table = u; calls = d ∷ ds }) d) (k : Call) (n : Counts)
@@ -277,8 +278,11 @@ module _ (b : List ℕ) (t : List Amount) (day : Day b t) where
       record {
         acceptance = λ k. acceptance j u (struck (d ∷ ds) (k .bad)) (k .status) (k .out) (inv-day _ (some d ds h));
         unchanged = λ e. absurd (nil≢cons (sym e));
-        one = λ d' ds' e status out m f. rw (← head-eq-of-cons-eq e) (one-call (joined (d ∷ ds)) (once (joined (d ∷ ds))) _ d h (λ s. member-once s (joined (d ∷ ds))) status out m f);
+        one = λ d' ds' e m status out q size fits. rw (← head-eq-of-cons-eq e) (one-call (joined (d ∷ ds)) m _ d h q status out size fits);
       }
 
 pub cut-list : CutList
 cut-list b t calls d = cut b t d (run (begin b t) calls) (inv-run b t d (begin b t) calls none)
+
+pub once-joins : OnceJoins
+once-joins ds s = member-once s (joined ds)

@@ -19,7 +19,7 @@ use Rattle.model.proofs.Join.{surviving-joined, survivors-joined, survivors-com
 use Rattle.model.proofs.Sets.{undone-surviving, survivors-unaborted, surviving-cong}
 use Rattle.journal.specs.Journal.{count, items, records, whole}
 use Rattle.journal.specs.Copy.{copied, copyRecords, journalOf, copy}
-use Rattle.journal.specs.Calls.{openingAt, tableLeft, accepted, Counts, counts, statuses, statusOf}
+use Rattle.journal.specs.Calls.{openingAt, tableLeft, accepted, counts, statuses, statusOf}
 use Rattle.journal.proofs.Records.{copied-copied}
 use Rattle.journal.proofs.Checked.{Checks}
 use Rattle.demands.specs.Undoing.{SameNames}

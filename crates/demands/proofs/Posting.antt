@@ -35,7 +35,7 @@ use Rattle.journal.proofs.Unrefused.{room, room-for, head-headed, count-bound, 
 use Rattle.journal.proofs.Appending.{start-clear, amount-tableAfter, length-openingTable, amount-openingTable, Enters, append-clear, clear-appended, length-extended, extended-bytes, items-extended, whole-extended, records-extended, tallied-extended, checks-extended, fits-tableAfter, start-accepted, length-started, started-bytes, count-started, items-started, whole-started, checks-started, opening-extended}
 use Rattle.journal.proofs.Relinked.{count-linked, whole-linked, same-bytes}
 use Rattle.demands.specs.Days.{accepts, Amounts, none, amount}
-use Rattle.demands.specs.Posting.{Post, Given, AllGiven, none, given, Desk, posted, next, run, entered, AllAccepted, opened, Chained, PostingReads, postsOf, Rebuilding}
+use Rattle.demands.specs.Posting.{Post, Given, AllGiven, none, given, Desk, posted, deskAfter, run, entered, AllAccepted, opened, Chained, PostingReads, postsOf, Rebuilding}
 use Rattle.demands.proofs.DaysLaws.{answered-none, answered-some, checks-pass, pass-checks}
 
 -- ---- a desk in order
@@ -61,7 +61,7 @@ abbrev entry : Desk → Post → Record
 entry d p = newRecord (d .table) (p .kind) (p .tx) (p .item) (p .after)
 
 -- a refused post leaves the desk as it is
-refused-next : (d : Desk) (p : Post) → accepts (posted d p .answer) ≡ false → next d p ≡ d
+refused-next : (d : Desk) (p : Post) → accepts (posted d p .answer) ≡ false → deskAfter d p ≡ d
 unfolding append
 refused-next d p e =
     let o : Option Refusal = decide (appendOrder (d .journal) (d .table) (d .tally) (entry d p)) in
@@ -83,15 +83,15 @@ module _ (d : Desk) (p : Post) where
     unfolding append
     clear-accepted = rw (clear-decide c)
 
-    next-journal : next d p .journal ≡ extended (d .journal) (entry d p)
+    next-journal : deskAfter d p .journal ≡ extended (d .journal) (entry d p)
     unfolding append
     next-journal = rw (clear-decide c)
 
-    next-table : next d p .table ≡ tableAfter (whole (d .journal)) (opOf (suc (count (d .journal))) (entry d p)) (d .table)
+    next-table : deskAfter d p .table ≡ tableAfter (whole (d .journal)) (opOf (suc (count (d .journal))) (entry d p)) (d .table)
     unfolding append
     next-table = rw (clear-decide c)
 
-    next-tally : next d p .tally ≡ raised (p .kind) (d .tally)
+    next-tally : deskAfter d p .tally ≡ raised (p .kind) (d .tally)
     unfolding append
     next-tally = rw (clear-decide c)
 
@@ -110,10 +110,10 @@ module _ (d : Desk) (p : Post) (g : Good d) (c : Clear (appendOrder (d .journal)
   long : 20 * (count (d .journal) + 1) + 20 ≤ length (d .journal)
   long = room (d .journal) (enters .room) .1
 
-  whole-next : whole (next d p .journal) ≡ opOf (suc (count (d .journal))) (entry d p) ∷ whole (d .journal)
+  whole-next : whole (deskAfter d p .journal) ≡ opOf (suc (count (d .journal))) (entry d p) ∷ whole (d .journal)
   whole-next = ap whole (next-journal d p c) ∙ whole-extended (d .journal) (entry d p) long small f
 
-  pub good-next : Good (next d p)
+  pub good-next : Good (deskAfter d p)
   good-next =
       record {
         bytes = rw (next-journal d p c) (extended-bytes (d .journal) (entry d p) long (g .bytes));
@@ -121,20 +121,20 @@ module _ (d : Desk) (p : Post) (g : Good d) (c : Clear (appendOrder (d .journal)
         tally = next-tally d p c ∙ ap (raised (p .kind)) (g .tally) ∙ sym (ap tallied whole-next ∙ tallied-extended (items (d .journal)) _ (entry d p) (whole (d .journal)) (enters .formed));
       }
 
-  length-next : length (next d p .journal) ≡ length (d .journal)
+  length-next : length (deskAfter d p .journal) ≡ length (d .journal)
   length-next = ap length (next-journal d p c) ∙ length-extended (d .journal) (entry d p) long
 
-  items-next : items (next d p .journal) ≡ items (d .journal)
+  items-next : items (deskAfter d p .journal) ≡ items (d .journal)
   items-next = ap items (next-journal d p c) ∙ items-extended (d .journal) (entry d p) long small f
 
-  records-next : map (linkedTo 0) (records (next d p .journal) (count (next d p .journal))) ≡ entry d p ∷ map (linkedTo 0) (records (d .journal) (count (d .journal)))
+  records-next : map (linkedTo 0) (records (deskAfter d p .journal) (count (deskAfter d p .journal))) ≡ entry d p ∷ map (linkedTo 0) (records (d .journal) (count (d .journal)))
   records-next = ap (λ b. map (linkedTo 0) (records b (count b))) (next-journal d p c) ∙ records-extended (d .journal) (entry d p) long small f
 
-  opening-next : openingTable (next d p .journal) (next d p .table) ≡ openingTable (d .journal) (d .table)
+  opening-next : openingTable (deskAfter d p .journal) (deskAfter d p .table) ≡ openingTable (d .journal) (d .table)
   opening-next =
       rw (next-journal d p c, next-table d p c) (opening-extended (d .journal) (d .table) (entry d p) (g .checks) enters f refl (entry-before d p))
 
-  fits-next : ((x : ℕ) → SFits w32 (amountAt (d .table) x)) → (x : ℕ) → SFits w32 (amountAt (next d p .table) x)
+  fits-next : ((x : ℕ) → SFits w32 (amountAt (d .table) x)) → (x : ℕ) → SFits w32 (amountAt (deskAfter d p .table) x)
   fits-next h x = rw (next-table d p c) (fits-tableAfter (d .journal) (d .table) (suc (count (d .journal))) (entry d p) (g .bytes) f h x)
 
 -- ---- a run of posts
@@ -171,7 +171,7 @@ run-kept d rs g h (given {p} {ps} w ws) e =
     byCases (accepts (posted d p .answer))
     (λ a. let c = accepted-clear d p a in
     let f = entry-fits d p h w in
-    let k = run-kept (next d p) (entry d p ∷ rs) (good-next d p g c f) (fits-next d p g c f h) ws (records-next d p g c f ∙ ap (λ l. entry d p ∷ l) e) in
+    let k = run-kept (deskAfter d p) (entry d p ∷ rs) (good-next d p g c f) (fits-next d p g c f h) ws (records-next d p g c f ∙ ap (λ l. entry d p ∷ l) e) in
     rw a (record { entries = k .entries; good = k .good; items = k .items ∙ items-next d p g c f; opening = k .opening ∙ opening-next d p g c f; room = k .room ∙ length-next d p g c f }))
     (λ a. rw (a, refused-next d p a) (run-kept d rs g h ws e))
 
@@ -217,12 +217,12 @@ posting-reads b m t ps k a e n gs =
 run-append : (d : Desk) (ps qs : List Post) → run d (ps ++ qs) ≡ run (run d ps) qs
 unfolding run
 run-append d [] qs = refl
-run-append d (p ∷ ps) qs = run-append (next d p) ps qs
+run-append d (p ∷ ps) qs = run-append (deskAfter d p) ps qs
 
 accepted-append : (d : Desk) (ps qs : List Post) → AllAccepted d ps → AllAccepted (run d ps) qs → AllAccepted d (ps ++ qs)
 unfolding run AllAccepted
 accepted-append d [] qs a c = c
-accepted-append d (p ∷ ps) qs a c = (a .0, accepted-append (next d p) ps qs (a .1) c)
+accepted-append d (p ∷ ps) qs a c = (a .0, accepted-append (deskAfter d p) ps qs (a .1) c)
 
 accepted-one : (d : Desk) (p : Post) → accepts (posted d p .answer) ≡ true → AllAccepted d (p ∷ [])
 unfolding AllAccepted
@@ -286,14 +286,14 @@ module _ (b : List ℕ) (t : List Amount) (z : List ℕ) (kb : Bytes b) (kz : By
     at-clear : Clear (appendOrder (d .journal) (d .table) (d .tally) (entry d (postOf r)))
     at-clear = enters-clear d (postOf r) (w .good) at-enters
 
-    at-table : (x : ℕ) → x < length t → amountAt (next d (postOf r) .table) x ≡ current (openingAt b t x) (history b (suc n)) x
+    at-table : (x : ℕ) → x < length t → amountAt (deskAfter d (postOf r) .table) x ≡ current (openingAt b t x) (history b (suc n)) x
     at-table x l =
         let o : Op = opOf (suc (count (d .journal))) (entry d (postOf r)) in
         let m : length (d .table) ≡ length t = table-length (d .journal) (d .table) (w .good .checks .table) ∙ w .items ∙ sym (table-length b t (k .table)) in
         ap (λ v. amountAt v x) (next-table d (postOf r) at-clear) ∙ amount-tableAfter (whole (d .journal)) o (d .table) x (omega arith)
         ∙ rw (entry-is, whole-at, count-at, opOf-linkedTo (suc n) 0 r, w .table x l, history-suc b n)
 
-    at-next : At (suc n) (next d (postOf r))
+    at-next : At (suc n) (deskAfter d (postOf r))
     at-next =
         let c = at-clear in
         record {

@@ -22,7 +22,7 @@ use Rattle.journal.specs.Refusals.{short, torn, badItems, badHead, wrongTable, 
 use Rattle.journal.specs.Orders.{try, decide, openOrder, recordOrder, recordsOrder, tableOrder, settledOrder, checkOrder, startOrder, appendOrder}
 use Rattle.journal.specs.Calls.{Answer, refused, accepted, start, check, link, extended, tableAfter, raised, append}
 use Rattle.demands.specs.Days.{none, amount}
-use Rattle.demands.specs.Posting.{Post, Given, none, given, Desk, posted, next, run, opened, Booked, Rebuilt}
+use Rattle.demands.specs.Posting.{Post, Given, none, given, Desk, posted, deskAfter, run, opened, Booked, Rebuilt}
 use Rattle.demands.proofs.Posting.{posting-reads, rebuilding}
 
 -- the definitions that the instances compute with
@@ -62,7 +62,7 @@ posts =
 -- the answers of a run, in order
 pub answers : Desk → List Post → List (Answer (Unit {0}))
 answers d [] = []
-answers d (p ∷ ps) = posted d p .answer ∷ answers (next d p) ps
+answers d (p ∷ ps) = posted d p .answer ∷ answers (deskAfter d p) ps
 
 pub posts-answers : answers (opened paper 3 opens) posts ≡ accepted tt ∷ refused 8 2 ∷ accepted tt ∷ accepted tt ∷ []
 unfolding computing paper opens posts answers

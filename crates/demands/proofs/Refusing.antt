@@ -1,25 +1,26 @@
 -- Refusals mean what they say: the statements Exactly, OnlyUnder, LowestRecord and Untouched of specs/Refusing.antt, proved.
 -- Assumes nothing.
 use mathlib.Core.Path.{_≡_, refl, sym, _∙_, ap}
-use mathlib.Core.Bool.{true}
+use mathlib.Core.Bool.{true, Bool, false}
 use mathlib.Core.Logic.{_↔_}
-use mathlib.Core.List.{List, [], _∷_, _++_}
+use mathlib.Core.List.{List, [], _∷_, _++_, append-nil}
 use mathlib.Core.Option.{Option, none, some, Option·none-ne-some, Option·some-injective}
 use Prim.Native.Nat.{ℕ, zero, suc, _+_, _<_, _≤_}
 use native.Mathlib.Omega.{arith}
 use lib.ListN.{length, getD}
+use Rattle.lists.specs.Tables.{each}
 use Rattle.lists.proofs.BoolLaws.{byCases}
 use Rattle.format.specs.declared.Record.{Record}
 use Rattle.model.specs.History.{Amount}
-use Rattle.journal.specs.Journal.{count, items}
-use Rattle.journal.specs.Refusals.{Tally, unsettled, stillActive, unknown}
+use Rattle.journal.specs.Journal.{count, items, opOf, whole}
+use Rattle.journal.specs.Refusals.{Tally, unsettled, stillActive, unknown, absent, malformed, closed, crossed, blind, noRoom, wrongTally, tooShort, wrongStatus}
 use Rattle.journal.specs.Orders.{Refusal, Trial, Order, try, decide, openOrder, recordOrder, recordsOrder, tableOrder, settledOrder, startOrder, checkOrder, chainOrder, appendOrder, undoOrder}
 use Rattle.journal.specs.Copy.{copy}
 use Rattle.journal.specs.Calls.{refused, answered, start, check, chainOf, chain, newRecord, append, undo}
-use Rattle.journal.proofs.Clear.{All, all-append, all-try, all-each, decide-all}
+use Rattle.journal.proofs.Clear.{All, all-append, all-try, all-each, decide-all, try-clear, decide-clear}
 use Rattle.journal.proofs.OrdersLaws.{decide-append-none, decide-append-some, decide-cases, decide-each}
 use Rattle.demands.proofs.DaysLaws.{answered-some, answered-refused}
-use Rattle.demands.specs.Refusing.{First, here, later, Exactly, Unsound, by-short, by-torn, by-head, by-smudge, by-chain, by-closed, by-crossed, by-blind, by-before, Unpassed, by-unsound, by-table, by-close, Unstarted, by-bytes, by-items, Unwalked, unsound-walk, by-absent, by-list, Unposted, unpassed-post, by-tally, new-smudge, new-closed, new-crossed, new-blind, by-room, Untaken, unpassed-undo, by-open, by-marks, by-unknown, by-paper, OnlyUnder, LowestRecord, Untouched}
+use Rattle.demands.specs.Refusing.{First, here, later, Exactly, Unsound, by-short, by-torn, by-head, by-smudge, by-chain, by-closed, by-crossed, by-blind, by-before, Unpassed, by-unsound, by-table, by-close, Unstarted, by-bytes, by-items, Unwalked, unsound-walk, by-absent, by-list, Unposted, unpassed-post, by-tally, new-smudge, new-closed, new-crossed, new-blind, by-room, Untaken, unpassed-undo, by-open, by-marks, by-unknown, by-paper, OnlyUnder, LowestRecord, Untouched, Lowest, LowestPlace}
 
 -- ---- answers
 
@@ -161,27 +162,78 @@ only-under =
       undo = λ b t bad status out number place e. answer-means (Untaken b t bad status out) _ _ (undo-means b t bad status out) number place e;
     }
 
--- ---- the lowest record, then the lowest number
+-- ---- the lowest record, then the lowest number; the lowest place
 
--- only numbers of a kind, only the place i
-abbrev Numbered : (ℕ → Type 0) → Trial → Type 0
-Numbered N t = N (t .refusal .number)
+-- what decides an order of three parts is in the middle one, if nothing in the others can be it
+module _ (r : Refusal) (P : Trial → Type 0) (not-it : (t : Trial) → P t → t .refusal ≡ r → ⊥) where
+  elsewhere : {o : Order} → All P o → decide o ≡ some r → ⊥
+  elsewhere a e = let (t, h, q, p) = decide-all P a r e in not-it t p q
 
-numbered : (N : ℕ → Type 0) (o : Order) → All (Numbered N) o → (r : Refusal) → decide o ≡ some r → N (r .number)
-numbered N o a r e = let (t, h, q, n) = decide-all (Numbered N) a r e in rw q at n
+  middle : (a m z : Order) → All P a → All P z → decide (a ++ m ++ z) ≡ some r → decide m ≡ some r
+  middle a m z p q e =
+      decide-cases a
+      (λ x.
+      decide-cases m
+      (λ y. absurd (elsewhere q (sym (decide-append-none (a ++ m) z (decide-append-none a m x ∙ y)) ∙ e)))
+      (λ w y. y ∙ sym (decide-append-some (a ++ m) z (decide-append-none a m x ∙ y)) ∙ e))
+      (λ w x. absurd (elsewhere p (x ∙ sym (decide-append-some (a ++ m) z (decide-append-some a m x)) ∙ e)))
 
-head-numbers : (b : List ℕ) (t : List Amount) → All (Numbered (λ n. n < 4)) (openOrder b ++ tableOrder b t)
-unfolding openOrder tableOrder
-head-numbers b t =
-    let M = Numbered (λ n. n < 4) in
-    all-append M (all-append M (all-append M (all-try M 1 0 _ (omega arith)) (all-try M 2 0 _ (omega arith))) (all-try M 1 0 _ (omega arith))) (all-try M 3 0 _ (omega arith))
+  -- and the front, if nothing behind can be it
+  front : (a z : Order) → All P z → decide (a ++ z) ≡ some r → decide a ≡ some r
+  front a z q e =
+      decide-cases a
+      (λ x. absurd (elsewhere q (sym (decide-append-none a z x) ∙ e)))
+      (λ w x. x ∙ sym (decide-append-some a z x) ∙ e)
 
-settled-numbers : (b : List ℕ) (t : List Amount) → All (Numbered (λ n. 9 < n)) (settledOrder b t)
+-- numbers that are not among those of a stage
+abbrev Outside : ℕ → ℕ → Trial → Type 0
+Outside low high t = low ≤ t .refusal .number → t .refusal .number ≤ high → ⊥
+
+outside : (n i low high : ℕ) → low ≤ n → n ≤ high → (t : Trial) → Outside low high t → t .refusal ≡ record { number = n; place = i } → ⊥
+outside n i low high l u t f q = let e = ap (λ r. r .number) q in f (omega arith) (omega arith)
+
+one-outside : (low high n p : ℕ) (c : Bool) → (low ≤ n → n ≤ high → ⊥) → All (Outside low high) (try n p c)
+one-outside low high n p c f = all-try (Outside low high) n p c f
+
+open-outside : (low high : ℕ) → 2 < low → (b : List ℕ) → All (Outside low high) (openOrder b)
+unfolding openOrder
+open-outside low high h b =
+    let M = Outside low high in
+    all-append M (all-append M (one-outside low high 1 0 _ (λ l u. omega arith)) (one-outside low high 2 0 _ (λ l u. omega arith))) (one-outside low high 1 0 _ (λ l u. omega arith))
+
+head-outside : (low high : ℕ) → 3 < low → (b : List ℕ) (t : List Amount) → All (Outside low high) (openOrder b ++ tableOrder b t)
+unfolding tableOrder
+head-outside low high h b t = all-append (Outside low high) (open-outside low high (omega arith) b) (one-outside low high 3 0 _ (λ l u. omega arith))
+
+settled-outside : (low high : ℕ) → high < 10 → (b : List ℕ) (t : List Amount) → All (Outside low high) (settledOrder b t)
 unfolding settledOrder
-settled-numbers b t =
-    let M = Numbered (λ n. 9 < n) in
-    all-each M (λ x. try 10 x (unsettled b t x)) 0 (items b) (λ x l m. all-try M 10 x _ (omega arith))
+settled-outside low high h b t =
+    all-each (Outside low high) (λ x. try 10 x (unsettled b t x)) 0 (items b) (λ x l m. one-outside low high 10 x _ (λ l u. omega arith))
 
+record-outside : (low high : ℕ) → 9 < low → (b : List ℕ) (i : ℕ) → All (Outside low high) (recordOrder b i)
+unfolding recordOrder
+record-outside low high h b i =
+    let M = Outside low high in
+    all-append M
+    (all-append M
+    (all-append M
+    (all-append M (all-append M (one-outside low high 4 i _ (λ l u. omega arith)) (one-outside low high 5 i _ (λ l u. omega arith))) (one-outside low high 6 i _ (λ l u. omega arith)))
+    (one-outside low high 7 i _ (λ l u. omega arith)))
+    (one-outside low high 8 i _ (λ l u. omega arith)))
+    (one-outside low high 9 i _ (λ l u. omega arith))
+
+records-outside : (low high : ℕ) → 9 < low → (b : List ℕ) → All (Outside low high) (recordsOrder b)
+unfolding recordsOrder
+records-outside low high h b = all-each (Outside low high) (recordOrder b) 1 (count b) (λ i l m. record-outside low high h b i)
+
+check-outside : (low high : ℕ) → 10 < low → (b : List ℕ) (t : List Amount) → All (Outside low high) (checkOrder b t)
+unfolding checkOrder settledOrder
+check-outside low high h b t =
+    let M = Outside low high in
+    all-append M (all-append M (head-outside low high (omega arith) b t) (records-outside low high (omega arith) b))
+    (all-each M (λ x. try 10 x (unsettled b t x)) 0 (items b) (λ x l m. one-outside low high 10 x _ (λ l u. omega arith)))
+
+-- a refusal among the records' is the lowest of the lowest record
 record-places : (b : List ℕ) (i : ℕ) → All (λ t. t .refusal .place ≡ i) (recordOrder b i)
 unfolding recordOrder
 record-places b i =
@@ -190,36 +242,146 @@ record-places b i =
     (all-append M (all-append M (all-append M (all-append M (all-try M 4 i _ refl) (all-try M 5 i _ refl)) (all-try M 6 i _ refl)) (all-try M 7 i _ refl)) (all-try M 8 i _ refl))
     (all-try M 9 i _ refl)
 
-lowest-at : (b : List ℕ) (n i k : ℕ) → decide (recordOrder b k) ≡ some (record { number = n; place = i }) → ((m : ℕ) → 1 ≤ m → m < k → decide (recordOrder b m) ≡ none)
-    → (decide (recordOrder b i) ≡ some (record { number = n; place = i })) × ((m : ℕ) → 1 ≤ m → m < i → decide (recordOrder b m) ≡ none)
-lowest-at b n i k g h =
-    let (x, v, w, s) = decide-all (λ t. t .refusal .place ≡ k) (record-places b k) (record { number = n; place = i }) g in
-    let p : k ≡ i = sym s ∙ ap (λ o. o .place) w in
-    (rw p at g, rw p at h)
+-- the place that decides is the index of the order that decides
+each-place : (f : ℕ → Order) (i n m p : ℕ) → ((k : ℕ) → All (λ t. t .refusal .place ≡ k) (f k)) → decide (each f i n) ≡ some (record { number = m; place = p })
+    → (decide (f p) ≡ some (record { number = m; place = p })) × ((k : ℕ) → i ≤ k → k < p → decide (f k) ≡ none)
+each-place f i n m p places e = let (k, a, c, g, h) = decide-each f i n (record { number = m; place = p }) e in at k g h
+  where
+    at : (k : ℕ) → decide (f k) ≡ some (record { number = m; place = p }) → ((j : ℕ) → i ≤ j → j < k → decide (f j) ≡ none)
+        → (decide (f p) ≡ some (record { number = m; place = p })) × ((j : ℕ) → i ≤ j → j < p → decide (f j) ≡ none)
+    at k g h =
+        let (x, v, w, s) = decide-all (λ t. t .refusal .place ≡ k) (places k) (record { number = m; place = p }) g in
+        let q : k ≡ p = sym s ∙ ap (λ o. o .place) w in
+        (rw q at g, rw q at h)
+
+records-lowest : (b : List ℕ) (n i : ℕ) → decide (recordsOrder b) ≡ some (record { number = n; place = i }) → Lowest b n i
+unfolding recordsOrder
+records-lowest b n i e = each-place (recordOrder b) 1 (count b) n i (record-places b) e
+
+check-lowest : (b : List ℕ) (t : List Amount) (n i : ℕ) → 4 ≤ n → n ≤ 9 → decide (checkOrder b t) ≡ some (record { number = n; place = i }) → Lowest b n i
+unfolding checkOrder
+check-lowest b t n i l u e =
+    records-lowest b n i
+    (middle (record { number = n; place = i }) (Outside 4 9) (outside n i 4 9 l u) (openOrder b ++ tableOrder b t) (recordsOrder b) (settledOrder b t)
+    (head-outside 4 9 (omega arith) b t) (settled-outside 4 9 (omega arith) b t) e)
+
+chain-lowest : (b : List ℕ) (s : ℕ) (l : List ℕ) (m n i : ℕ) → 4 ≤ n → n ≤ 9 → decide (chainOrder b s l m) ≡ some (record { number = n; place = i }) → Lowest b n i
+unfolding chainOrder
+chain-lowest b s l m n i low high e =
+    let r : Refusal = record { number = n; place = i } in
+    let P = Outside 4 9 in
+    records-lowest b n i
+    (middle r P (outside n i 4 9 low high) (openOrder b) (recordsOrder b) (try 12 0 (absent b s)) (open-outside 4 9 (omega arith) b) (one-outside 4 9 12 0 _ (λ l u. omega arith))
+    (front r P (outside n i 4 9 low high) (openOrder b ++ recordsOrder b ++ try 12 0 (absent b s)) (try 14 0 (tooShort l m)) (one-outside 4 9 14 0 _ (λ l u. omega arith)) e))
+
+undo-lowest : (b : List ℕ) (t : List Amount) (bad status out : List ℕ) (m n i : ℕ) → 4 ≤ n → n ≤ 9 → decide (undoOrder b t bad status out m) ≡ some (record { number = n; place = i }) → Lowest b n i
+unfolding undoOrder
+undo-lowest b t bad status out m n i low high e =
+    let r : Refusal = record { number = n; place = i } in
+    let P = Outside 4 9 in
+    let not-it = outside n i 4 9 low high in
+    let active-order = each (λ s. try 11 s (stillActive b s)) 1 1024 in
+    let named-order = each (λ k. try 12 k (unknown b (getD bad k 0))) 0 (length bad) in
+    let o1 = checkOrder b t ++ active-order in
+    let o2 = o1 ++ try 13 0 (wrongStatus status) in
+    let e1 = front r P not-it (o2 ++ named-order) (try 14 0 (tooShort out m)) (one-outside 4 9 14 0 _ (λ l u. omega arith)) e in
+    let e2 = front r P not-it o2 named-order (all-each P (λ k. try 12 k (unknown b (getD bad k 0))) 0 (length bad) (λ k l u. one-outside 4 9 12 k _ (λ l u. omega arith))) e1 in
+    let e3 = front r P not-it o1 (try 13 0 (wrongStatus status)) (one-outside 4 9 13 0 _ (λ l u. omega arith)) e2 in
+    check-lowest b t n i low high
+    (front r P not-it (checkOrder b t) active-order (all-each P (λ s. try 11 s (stillActive b s)) 1 1024 (λ s l u. one-outside 4 9 11 s _ (λ l u. omega arith))) e3)
+
+-- post's own record has a place behind the journal's
+abbrev Behind : ℕ → Trial → Type 0
+Behind n t = t .refusal .place ≤ n → Outside 4 9 t
+
+append-lowest : (b : List ℕ) (t : List Amount) (c : Tally) (q : Record) (n i : ℕ) → 4 ≤ n → n ≤ 9 → i ≤ count b → decide (appendOrder b t c q) ≡ some (record { number = n; place = i }) → Lowest b n i
+unfolding appendOrder
+append-lowest b t c q n i low high within e =
+    let r : Refusal = record { number = n; place = i } in
+    let P = Behind (count b) in
+    let new : ℕ = suc (count b) in
+    let o = opOf new q in
+    let not-it : (x : Trial) → P x → x .refusal ≡ r → ⊥ = λ x f w. f (rw w within) (rw w low) (rw w high) in
+    let o15 = checkOrder b t ++ try 15 0 (wrongTally b c) in
+    let o4 = o15 ++ try 4 new (malformed (items b) q) in
+    let o6 = o4 ++ try 6 new (closed (whole b) o) in
+    let o7 = o6 ++ try 7 new (crossed (whole b) o) in
+    let o8 = o7 ++ try 8 new (blind (whole b) o) in
+    let e8 = front r P not-it o8 (try 14 0 (noRoom b)) (all-try P 14 0 _ (λ h l u. omega arith)) e in
+    let e7 = front r P not-it o7 (try 8 new (blind (whole b) o)) (all-try P 8 new _ (λ h l u. omega arith)) e8 in
+    let e6 = front r P not-it o6 (try 7 new (crossed (whole b) o)) (all-try P 7 new _ (λ h l u. omega arith)) e7 in
+    let e4 = front r P not-it o4 (try 6 new (closed (whole b) o)) (all-try P 6 new _ (λ h l u. omega arith)) e6 in
+    let e15 = front r P not-it o15 (try 4 new (malformed (items b) q)) (all-try P 4 new _ (λ h l u. omega arith)) e4 in
+    check-lowest b t n i low high (front r P not-it (checkOrder b t) (try 15 0 (wrongTally b c)) (all-try P 15 0 _ (λ h l u. omega arith)) e15)
 
 pub lowest-record : LowestRecord
-unfolding check checkOrder recordsOrder
-lowest-record b t n i l u e =
-    let r : Refusal = record { number = n; place = i } in
-    let d = answered-refused (decide (checkOrder b t)) _ n i e in
-    let head = openOrder b ++ tableOrder b t in
-    let rs = recordsOrder b in
-    decide-cases head
-    (λ z.
-    decide-cases rs
-    (λ y. absurd (omega (
-      arith,
-      numbered (λ n. 9 < n) (settledOrder b t) (settled-numbers b t) r
-          (sym (decide-append-none (head ++ rs) (settledOrder b t) (decide-append-none head rs z ∙ y)) ∙ d),
-    )))
-    (λ q y.
-    let f : decide rs ≡ some r = y ∙ sym (decide-append-some (head ++ rs) (settledOrder b t) (decide-append-none head rs z ∙ y)) ∙ d in
-    let (k, a, c, g, h) = decide-each (recordOrder b) 1 (count b) r f in lowest-at b n i k g h))
-    (λ q z. absurd (omega (
-      arith,
-      numbered (λ n. n < 4) head (head-numbers b t) r
-          (z ∙ sym (decide-append-some (head ++ rs) (settledOrder b t) (decide-append-some head rs z)) ∙ d),
-    )))
+unfolding check chain append undo
+lowest-record =
+    record {
+      check = λ b t n i l u e. check-lowest b t n i l u (answered-refused (decide (checkOrder b t)) _ n i e);
+      chain = λ b s l n i low high e. chain-lowest b s l (length (chainOf b s)) n i low high (answered-refused (decide (chainOrder b s l (length (chainOf b s)))) (length (chainOf b s)) n i e);
+      append = λ b t c kind s x a n i low high within e.
+          append-lowest b t c (newRecord t kind s x a) n i low high within (answered-refused (decide (appendOrder b t c (newRecord t kind s x a))) tt n i e);
+      undo = λ b t bad status out n i low high e.
+          undo-lowest b t bad status out (length (copy bad b)) n i low high (answered-refused (decide (undoOrder b t bad status out (length (copy bad b)))) _ n i e);
+    }
+
+-- an order of single conditions by index: none before the one that decides holds
+tried-lowest : (n : ℕ) (f : ℕ → Bool) (i m p : ℕ) → decide (each (λ k. try n k (f k)) i m) ≡ some (record { number = n; place = p }) → (k : ℕ) → i ≤ k → k < p → f k ≡ false
+tried-lowest n f i m p e k l h =
+    try-clear n k (f k)
+    (decide-clear (try n k (f k)) (each-place (λ k. try n k (f k)) i m n p (λ k. all-try (λ t. t .refusal .place ≡ k) n k (f k) refl) e .1 k l h))
+
+settled-only : (b : List ℕ) (t : List Amount) (x : ℕ) → decide (checkOrder b t) ≡ some (record { number = 10; place = x }) → decide (settledOrder b t) ≡ some (record { number = 10; place = x })
+unfolding checkOrder
+settled-only b t x e =
+    middle (record { number = 10; place = x }) (Outside 10 10) (outside 10 x 10 10 (omega arith) (omega arith)) (openOrder b ++ tableOrder b t ++ recordsOrder b) (settledOrder b t) []
+    (all-append (Outside 10 10) (head-outside 10 10 (omega arith) b t) (records-outside 10 10 (omega arith) b)) All.empty (ap decide (append-nil (checkOrder' b t)) ∙ e)
+  where
+    checkOrder' : List ℕ → List Amount → Order
+    checkOrder' b t = openOrder b ++ tableOrder b t ++ recordsOrder b ++ settledOrder b t
+
+item-lowest : (b : List ℕ) (t : List Amount) (x : ℕ) → decide (checkOrder b t) ≡ some (record { number = 10; place = x }) → (y : ℕ) → y < x → unsettled b t y ≡ false
+unfolding settledOrder
+item-lowest b t x e y h = tried-lowest 10 (unsettled b t) 0 (items b) x (settled-only b t x e) y (omega arith) h
+
+module _ (b : List ℕ) (t : List Amount) (bad status out : List ℕ) (m : ℕ) where
+  active-lowest : (s : ℕ) → decide (undoOrder b t bad status out m) ≡ some (record { number = 11; place = s }) → (v : ℕ) → 1 ≤ v → v < s → stillActive b v ≡ false
+  unfolding undoOrder
+  active-lowest s e v l h =
+      let r : Refusal = record { number = 11; place = s } in
+      let P = Outside 11 11 in
+      let not-it = outside 11 s 11 11 (omega arith) (omega arith) in
+      let active-order = each (λ s. try 11 s (stillActive b s)) 1 1024 in
+      let named-order = each (λ k. try 12 k (unknown b (getD bad k 0))) 0 (length bad) in
+      let o2 = checkOrder b t ++ active-order ++ try 13 0 (wrongStatus status) in
+      let e1 = front r P not-it (o2 ++ named-order) (try 14 0 (tooShort out m)) (one-outside 11 11 14 0 _ (λ l u. omega arith)) e in
+      let e2 = front r P not-it o2 named-order (all-each P (λ k. try 12 k (unknown b (getD bad k 0))) 0 (length bad) (λ k l u. one-outside 11 11 12 k _ (λ l u. omega arith))) e1 in
+      tried-lowest 11 (stillActive b) 1 1024 s
+      (middle r P not-it (checkOrder b t) active-order (try 13 0 (wrongStatus status)) (check-outside 11 11 (omega arith) b t) (one-outside 11 11 13 0 _ (λ l u. omega arith)) e2) v l h
+
+  position-lowest : (k : ℕ) → decide (undoOrder b t bad status out m) ≡ some (record { number = 12; place = k }) → (i : ℕ) → i < k → unknown b (getD bad i 0) ≡ false
+  unfolding undoOrder
+  position-lowest k e i h =
+      let r : Refusal = record { number = 12; place = k } in
+      let P = Outside 12 12 in
+      let not-it = outside 12 k 12 12 (omega arith) (omega arith) in
+      let active-order = each (λ s. try 11 s (stillActive b s)) 1 1024 in
+      let named-order = each (λ k. try 12 k (unknown b (getD bad k 0))) 0 (length bad) in
+      let o2 = checkOrder b t ++ active-order ++ try 13 0 (wrongStatus status) in
+      tried-lowest 12 (λ k. unknown b (getD bad k 0)) 0 (length bad) k
+      (middle r P not-it o2 named-order (try 14 0 (tooShort out m))
+      (all-append P (all-append P (check-outside 12 12 (omega arith) b t) (all-each P (λ s. try 11 s (stillActive b s)) 1 1024 (λ s l u. one-outside 12 12 11 s _ (λ l u. omega arith)))) (one-outside 12 12 13 0 _ (λ l u. omega arith)))
+      (one-outside 12 12 14 0 _ (λ l u. omega arith)) e) i (omega arith) h
+
+pub lowest-place : LowestPlace
+unfolding check undo
+lowest-place =
+    record {
+      item = λ b t x e. item-lowest b t x (answered-refused (decide (checkOrder b t)) _ 10 x e);
+      transaction = λ b t bad status out s e. active-lowest b t bad status out (length (copy bad b)) s (answered-refused (decide (undoOrder b t bad status out (length (copy bad b)))) _ 11 s e);
+      position = λ b t bad status out k e. position-lowest b t bad status out (length (copy bad b)) k (answered-refused (decide (undoOrder b t bad status out (length (copy bad b)))) _ 12 k e);
+    }
 
 -- ---- a refused call writes nothing
 

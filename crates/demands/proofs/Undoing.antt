@@ -10,7 +10,7 @@ use lib.Dec.{eqb, ltb}
 use lib.ListN.{length, getD, List·getD-eq-default}
 use borrow.Author.Tests.{eqb-true, eq-eqb, ltb-true, ltb-false, le-ltb, not-true}
 use Rattle.lists.specs.Search.{any, member}
-use Rattle.lists.specs.Tables.{tabulate, number}
+use Rattle.lists.specs.Tables.{tabulate}
 use Rattle.lists.proofs.BoolLaws.{byCases, and-left, and-right, and-both, or-cases, clash}
 use Rattle.lists.proofs.SearchLaws.{latest-kept, any-mono}
 use Rattle.lists.proofs.TablesLaws.{length-tabulate, getD-tabulate, number-ext}
@@ -21,18 +21,20 @@ use Rattle.model.proofs.Closure.{EndsLast, reached-list, reached-closed, reache
 use Rattle.model.proofs.Removal.{commit-of, same-feed}
 use Rattle.model.proofs.Strict.{legal-closed}
 use Rattle.journal.specs.Journal.{count, items, opOf, history, whole}
-use Rattle.journal.specs.Refusals.{closed, unsettled, stillActive, unknown, tooShort}
-use Rattle.journal.specs.Orders.{Refusal, Trial, try, openOrder, recordOrder, recordsOrder, tableOrder, settledOrder, checkOrder, undoOrder}
+use Rattle.journal.specs.Refusals.{closed, tooShort}
+use Rattle.journal.specs.Orders.{undoOrder}
 use Rattle.journal.specs.Copy.{copy}
 use Rattle.journal.specs.Calls.{undo, counts, statusOf, statuses, openingAt, tableLeft}
-use Rattle.journal.proofs.Clear.{Clear, All, all-append, all-try, all-each, decide-all}
+use Rattle.journal.proofs.Clear.{Clear}
 use Rattle.journal.proofs.Records.{txOf-opOf}
 use Rattle.journal.proofs.Checked.{Sound, Checks}
 use Rattle.journal.proofs.Passing.{malformed-tx}
 use Rattle.demands.specs.Days.{accepts, Day}
 use Rattle.demands.specs.Undoing.{Accepting, Acceptance, CopyFits, NeverShort, copyIn, LeftPasses, markOf, UndoSet, LeastSet, FewestSales, Fewest}
+use Rattle.demands.specs.Refusing.{Unsound, by-short, by-torn, by-head, by-smudge, by-chain, by-closed, by-crossed, by-blind, by-before, Unpassed, by-unsound, by-table, by-close, Untaken, unpassed-undo, by-open, by-marks, by-unknown, by-paper}
+use Rattle.demands.proofs.Refusing.{only-under}
 use Rattle.demands.proofs.Left.{legal-day, copy-few, copy-length, copy-bytes, copy-checks, copy-openingTable, copy-ended}
-use Rattle.demands.proofs.DaysLaws.{answered-refused, pass-checks, checks-pass}
+use Rattle.demands.proofs.DaysLaws.{pass-checks, checks-pass}
 use Rattle.demands.proofs.Undone.{clear-accepting, accepting-clear, undo-accepts, undo-answer, undo-table, undo-status, undo-copy, undo-behind, accepted-clear}
 
 -- ---- transactions of a journal that passes are numbered from 1 to 1,024
@@ -64,54 +66,34 @@ pub copy-fits : CopyFits
 copy-fits b t bad d =
     let k = pass-checks b t (d .pass) in omega (arith, copy-length b t (d .bytes) k bad, copy-few b t (d .bytes) k bad)
 
--- a condition of number 14 does not hold
-abbrev Not14 : Trial → Type 0
-Not14 t = t .refusal .number ≡ 14 → t .holds ≡ false
+-- which refusals have which numbers
+unsound-number : {b : List ℕ} {n p : ℕ} → Unsound b n p → n ≤ 9
+unsound-number (by-short h) = omega arith
+unsound-number (by-torn h) = omega arith
+unsound-number (by-head h) = omega arith
+unsound-number (by-smudge l u h) = omega arith
+unsound-number (by-chain l u h) = omega arith
+unsound-number (by-closed u h) = omega arith
+unsound-number (by-crossed u h) = omega arith
+unsound-number (by-blind u h) = omega arith
+unsound-number (by-before u h) = omega arith
 
-record-not14 : (b : List ℕ) (i : ℕ) → All Not14 (recordOrder b i)
-unfolding recordOrder
-record-not14 b i =
-    all-append Not14
-    (all-append Not14
-    (all-append Not14
-    (all-append Not14
-    (all-append Not14 (all-try Not14 4 i _ (λ e. absurd (omega arith))) (all-try Not14 5 i _ (λ e. absurd (omega arith))))
-    (all-try Not14 6 i _ (λ e. absurd (omega arith))))
-    (all-try Not14 7 i _ (λ e. absurd (omega arith))))
-    (all-try Not14 8 i _ (λ e. absurd (omega arith))))
-    (all-try Not14 9 i _ (λ e. absurd (omega arith)))
+unpassed-number : {b : List ℕ} {t : List Amount} {n p : ℕ} → Unpassed b t n p → n ≤ 10
+unpassed-number (by-unsound u) = omega (arith, unsound-number u)
+unpassed-number (by-table h) = omega arith
+unpassed-number (by-close l h) = omega arith
 
-check-not14 : (b : List ℕ) (t : List Amount) → All Not14 (checkOrder b t)
-unfolding checkOrder openOrder tableOrder recordsOrder settledOrder
-check-not14 b t =
-    all-append Not14
-    (all-append Not14
-    (all-append Not14
-    (all-append Not14
-    (all-append Not14 (all-try Not14 1 0 _ (λ e. absurd (omega arith))) (all-try Not14 2 0 _ (λ e. absurd (omega arith))))
-    (all-try Not14 1 0 _ (λ e. absurd (omega arith))))
-    (all-try Not14 3 0 _ (λ e. absurd (omega arith))))
-    (all-each Not14 (recordOrder b) 1 (count b) (λ i l m. record-not14 b i)))
-    (all-each Not14 (λ x. try 10 x (unsettled b t x)) 0 (items b) (λ x l m. all-try Not14 10 x _ (λ e. absurd (omega arith))))
-
-undo-not14 : (b : List ℕ) (t : List Amount) (bad status out : List ℕ) → length (copy bad b) ≤ length out → All Not14 (undoOrder b t bad status out (length (copy bad b)))
-unfolding undoOrder tooShort
-undo-not14 b t bad status out h =
-    all-append Not14
-    (all-append Not14
-    (all-append Not14
-    (all-append Not14 (check-not14 b t) (all-each Not14 (λ s. try 11 s (stillActive b s)) 1 1024 (λ s l m. all-try Not14 11 s _ (λ e. absurd (omega arith)))))
-    (all-try Not14 13 0 _ (λ e. absurd (omega arith))))
-    (all-each Not14 (λ k. try 12 k (unknown b (getD bad k 0))) 0 (length bad) (λ k l m. all-try Not14 12 k _ (λ e. absurd (omega arith)))))
-    (all-try Not14 14 0 _ (λ e. le-ltb (length out) (length (copy bad b)) h))
+untaken-14 : {b : List ℕ} {t : List Amount} {bad status out : List ℕ} {n p : ℕ} → Untaken b t bad status out n p → n ≡ 14 → tooShort out (length (copy bad b)) ≡ true
+untaken-14 (unpassed-undo u) e = absurd (omega (arith, unpassed-number u))
+untaken-14 (by-open l u h) e = absurd (omega arith)
+untaken-14 (by-marks h) e = absurd (omega arith)
+untaken-14 (by-unknown l h) e = absurd (omega arith)
+untaken-14 (by-paper h) e = h
 
 pub never-short : NeverShort
-unfolding undo
+unfolding tooShort
 never-short b t bad status out place d h e =
-    let r : Refusal = record { number = 14; place = place } in
-    let l : length (copy bad b) ≤ length out = omega (arith, copy-fits b t bad d) in
-    let (t', holds, same, p) = decide-all Not14 (undo-not14 b t bad status out l) r (answered-refused _ _ 14 place e) in
-    clash holds (p (ap (λ q. q .number) same))
+    clash (untaken-14 (only-under .undo b t bad status out 14 place e) refl) (le-ltb (length out) (length (copy bad b)) (omega (arith, copy-fits b t bad d)))
 
 -- ---- 2. what is left passes
 

@@ -49,21 +49,29 @@ called c k = undo (c .journal) (c .table) (struck (c .calls) (k .bad)) (k .statu
 
 -- an accepted call hands on its copy, exactly its bytes, and its table; a refused one what it got
 abbrev pub handed : Course → Call → Undone → Answer Counts → Course
-handed c k r (refused n p) = c
+handed c k r (refused n p) = record { journal = c .journal; table = r .table; calls = c .calls }
 handed c k r (accepted n) = record { journal = copyIn r n; table = r .table; calls = record { given = k .bad; status = r .status; counts = n } ∷ c .calls }
 
 unfoldable pub run : Course → List Call → Course
 run c [] = c
 run c (k ∷ ks) = run (handed c k (called c k) (called c k .answer)) ks
 
--- the accepted lists joined, each number once
+-- each number once
 unfoldable pub once : List ℕ → List ℕ
 once [] = []
 once (s ∷ l) = let m : List ℕ = once l in cond (member s m) m (s ∷ m)
 
+-- the accepted lists joined, as before striking, the newest call's first
 unfoldable pub joined : List Done → List ℕ
 joined [] = []
 joined (d ∷ ds) = d .given ++ joined ds
+
+-- a list that has just the numbers of the accepted lists, in any order: `once (joined ds)` is one
+abbrev pub Joins : List ℕ → List Done → Type 0
+Joins m ds = (s : ℕ) → member s m ≡ member s (joined ds)
+
+abbrev pub OnceJoins : Type 0
+OnceJoins = (ds : List Done) → Joins (once (joined ds)) ds
 
 -- how many accepted calls marked the sale 2, and counts added up
 unfoldable pub times : ℕ → List Done → ℕ
@@ -92,9 +100,8 @@ pub record Cut (b : List ℕ) (t : List Amount) (c : Course) : Type 0 where
   -- none accepted: journal and table unchanged
   pub unchanged : c .calls ≡ [] → (c .journal ≡ b) × (c .table ≡ t)
   -- otherwise it is the one call with the accepted lists joined, marks of 1,025 bytes and paper that holds the copy
-  pub one : (d : Done) (ds : List Done) → c .calls ≡ d ∷ ds → (status out : List ℕ) → length status ≡ 1025
-      → length (copy (once (joined (c .calls))) b) ≤ length out
-      → (n : Counts) × Same c d (undo b t (once (joined (c .calls))) status out) n
+  pub one : (d : Done) (ds : List Done) → c .calls ≡ d ∷ ds → (m status out : List ℕ) → Joins m (c .calls) → length status ≡ 1025
+      → length (copy m b) ≤ length out → (n : Counts) × Same c d (undo b t m status out) n
 
 -- The cut list, for any sequence of calls, accepted and refused, from a journal and table that pass with every sale finished.
 abbrev pub CutList : Type 0

@@ -44,25 +44,25 @@ abbrev pub posted : Desk → Post → Appended
 posted d p = append (d .journal) (d .table) (d .tally) (p .kind) (p .tx) (p .item) (p .after)
 
 -- the desk after one post, accepted or refused
-abbrev pub next : Desk → Post → Desk
-next d p = record { journal = posted d p .journal; table = posted d p .table; tally = posted d p .tally }
+abbrev pub deskAfter : Desk → Post → Desk
+deskAfter d p = record { journal = posted d p .journal; table = posted d p .table; tally = posted d p .tally }
 
 -- the desk after a run of posts
 unfoldable pub run : Desk → List Post → Desk
 run d [] = d
-run d (p ∷ ps) = run (next d p) ps
+run d (p ∷ ps) = run (deskAfter d p) ps
 
 -- the records of the accepted posts of a run, newest first, ahead of rs: kind, sale, item and after as given, a write's before the
 -- table's amount then
 unfoldable pub entered : Desk → List Post → List Record → List Record
 entered d [] rs = rs
 entered d (p ∷ ps) rs =
-    entered (next d p) ps (cond (accepts (posted d p .answer)) (newRecord (d .table) (p .kind) (p .tx) (p .item) (p .after) ∷ rs) rs)
+    entered (deskAfter d p) ps (cond (accepts (posted d p .answer)) (newRecord (d .table) (p .kind) (p .tx) (p .item) (p .after) ∷ rs) rs)
 
 -- each post of a run is accepted
 unfoldable pub AllAccepted : Desk → List Post → Type 0
 AllAccepted d [] = Unit {0}
-AllAccepted d (p ∷ ps) = (accepts (posted d p .answer) ≡ true) × AllAccepted (next d p) ps
+AllAccepted d (p ∷ ps) = (accepts (posted d p .answer) ≡ true) × AllAccepted (deskAfter d p) ps
 
 -- a started journal, with a table and no records counted
 abbrev pub opened : List ℕ → ℕ → List Amount → Desk
@@ -83,7 +83,7 @@ pub record Booked (before : Desk) (ps : List Post) (d : Desk) : Type 0 where
   pub room : length (d .journal) ≡ length (before .journal)
 
 -- What posting builds, reading accepts: for any run of posts from start, with any room, any table of item-count amounts and tally 0.
--- It holds of each part of a run too, since that is a run.
+-- It holds after each post of a run, since what comes before is a run too.
 abbrev pub PostingReads : Type 0
 PostingReads = (b : List ℕ) (m : ℕ) (t : List Amount) (ps : List Post) → Bytes b → accepts (start b m .answer) ≡ true → length t ≡ m
     → Amounts t → AllGiven ps → Booked (opened b m t) ps (run (opened b m t) ps)

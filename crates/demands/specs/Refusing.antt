@@ -92,11 +92,26 @@ pub record OnlyUnder : Type 0 where
   pub undo : (b : List ℕ) (t : List Amount) (bad status out : List ℕ) (number place : ℕ)
       → undo b t bad status out .answer ≡ refused number place → Untaken b t bad status out number place
 
--- Among 4 to 9 the lowest record decides, then the lowest number: nothing at a lower record, and this is the first of its own.
-abbrev pub LowestRecord : Type 0
-LowestRecord = (b : List ℕ) (t : List Amount) (number place : ℕ) → 4 ≤ number → number ≤ 9 → check b t ≡ refused number place
-    → (decide (recordOrder b place) ≡ some (record { number = number; place = place }))
-    × ((k : ℕ) → 1 ≤ k → k < place → decide (recordOrder b k) ≡ none)
+-- record i of the journal is the lowest at which one of 4 to 9 holds, and this is the lowest number there
+abbrev pub Lowest : List ℕ → ℕ → ℕ → Type 0
+Lowest b number i = (decide (recordOrder b i) ≡ some (record { number = number; place = i })) × ((k : ℕ) → 1 ≤ k → k < i → decide (recordOrder b k) ≡ none)
+
+-- Among 4 to 9 the lowest record decides, then the lowest number. (Post's own record stands behind the journal's.)
+pub record LowestRecord : Type 0 where
+  pub check : (b : List ℕ) (t : List Amount) (number i : ℕ) → 4 ≤ number → number ≤ 9 → check b t ≡ refused number i → Lowest b number i
+  pub chain : (b : List ℕ) (s : ℕ) (l : List ℕ) (number i : ℕ) → 4 ≤ number → number ≤ 9 → chain b s l .answer ≡ refused number i → Lowest b number i
+  pub append : (b : List ℕ) (t : List Amount) (c : Tally) (kind s x : ℕ) (a : Amount) (number i : ℕ) → 4 ≤ number → number ≤ 9 → i ≤ count b
+      → append b t c kind s x a .answer ≡ refused number i → Lowest b number i
+  pub undo : (b : List ℕ) (t : List Amount) (bad status out : List ℕ) (number i : ℕ) → 4 ≤ number → number ≤ 9
+      → undo b t bad status out .answer ≡ refused number i → Lowest b number i
+
+-- 10 gives the lowest such item, 11 the lowest such sale, 12 the lowest list position.
+pub record LowestPlace : Type 0 where
+  pub item : (b : List ℕ) (t : List Amount) (x : ℕ) → check b t ≡ refused 10 x → (y : ℕ) → y < x → unsettled b t y ≡ false
+  pub transaction : (b : List ℕ) (t : List Amount) (bad status out : List ℕ) (s : ℕ) → undo b t bad status out .answer ≡ refused 11 s
+      → (v : ℕ) → 1 ≤ v → v < s → stillActive b v ≡ false
+  pub position : (b : List ℕ) (t : List Amount) (bad status out : List ℕ) (k : ℕ) → undo b t bad status out .answer ≡ refused 12 k
+      → (i : ℕ) → i < k → unknown b (getD bad i 0) ≡ false
 
 -- ---- a refused call writes to nothing lent
 

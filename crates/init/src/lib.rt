@@ -14,7 +14,8 @@ pub enum Init {
     Refused(Reason),
 }
 
-// Writes the head of a journal with no records and this many items (document 01, start).
+// Writes the head of a journal with no records and this many items (document 01, start). Refused, with nothing written: 1 for a buffer
+// of fewer than 20 bytes, then 2 unless there are 1 to 1,024 items.
 pub fn start(journal: &mut [u8], items: u32) -> Init
     ensures answer { λ r. ⌜ answerOf r ≡ calls.start (now (journal .entry)) items .answer ⌝ }
     ensures journal { λ r. ⌜ now (journal .exit) ≡ calls.start (now (journal .entry)) items .journal ⌝ }

@@ -18,12 +18,13 @@ sameAmount (pos m) (negsuc n) = false
 sameAmount (negsuc m) (pos n) = false
 sameAmount (negsuc m) (negsuc n) = eqb m n
 
--- What no rule looks at: the record number (LSN). Two writes are the same write if they are equal, their record numbers too.
+-- What rules 6 to 9 and feeding never look at: the record number (LSN), by which the chain goes. Two writes are the same write if
+-- they are equal, their record numbers too.
 abbrev pub Tag : Type 0
 Tag = ℕ
 
 -- A record by its effect: tag, transaction (01: sale), item, before image, after image. `other` is a record of a kind that the
--- layout does not know; refusal 4 stops at it, so no rule ever depends on one.
+-- layout does not know; refusal 4 stops there, so rules 6 to 9 never meet one. The chain counts it by its bytes 2-3.
 pub data Op : Type 0 where
   read : Tag → ℕ → ℕ → Op
   write : Tag → ℕ → ℕ → Amount → Amount → Op
