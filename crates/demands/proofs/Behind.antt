@@ -3,17 +3,17 @@
 use mathlib.Core.Path.{_≡_, refl, sym, _∙_, ap}
 use mathlib.Core.Bool.{Bool, true, false, cond}
 use mathlib.Core.List.{List, [], _∷_, _++_}
-use mathlib.Core.Option.{some}
+use mathlib.Core.Option.{some, none}
 use Prim.Native.Nat.{ℕ, zero, suc, _+_, _*_, _<_, _≤_, pred}
 use native.Mathlib.Omega.{arith}
 use lib.Dec.{eqb, ltb}
 use lib.ListN.{length, take, drop, take-append-drop}
 use lib.Seq.{length-take-le}
-use borrow.Author.Tests.{le-ltb}
+use borrow.Author.Tests.{le-ltb, ltb-false}
 use Rattle.lists.specs.Search.{latest, first}
 use Rattle.lists.specs.Tables.{each, store}
 use Rattle.lists.proofs.BoolLaws.{byCases}
-use Rattle.lists.proofs.TablesLaws.{each-ext, length-store, take-stored, take-through}
+use Rattle.lists.proofs.TablesLaws.{each-ext, length-store, take-stored, take-through, drop-store}
 use Rattle.format.specs.declared.Record.{Record}
 use Rattle.format.specs.Layout.{recordAt, bytesOf}
 use Rattle.format.specs.Bytes.{bytes}
@@ -21,13 +21,13 @@ use Rattle.format.proofs.BytesLaws.{length-bytes}
 use Rattle.format.proofs.LayoutLaws.{length-bytesOf, recordAt-front}
 use Rattle.model.specs.History.{Op, Amount, ofTx, tagIn, laterOf}
 use Rattle.journal.specs.Journal.{count, items, txIn, records, history, whole}
-use Rattle.journal.specs.Refusals.{Tally, short, torn, badHead, wrongTable, unchained, unsettled, stillActive, unknown, absent, tooShort, noRoom, wrongTally}
-use Rattle.journal.specs.Orders.{Refusal, try, decide, openOrder, recordOrder, recordsOrder, tableOrder, settledOrder, checkOrder, chainOrder, appendOrder, undoOrder}
-use Rattle.journal.specs.Copy.{copyRecords, copy}
-use Rattle.journal.specs.Calls.{check, walk, chainOf, chain, link, extended, newRecord, append, undo, openingAt, tableLeft, counts}
+use Rattle.journal.specs.Refusals.{Tally, short, torn, badHead, wrongTable, unchained, unsettled, stillActive, unknown, absent, tooShort, noRoom, wrongTally, badItems}
+use Rattle.journal.specs.Orders.{Refusal, try, decide, openOrder, recordOrder, recordsOrder, tableOrder, settledOrder, checkOrder, chainOrder, appendOrder, undoOrder, startOrder}
+use Rattle.journal.specs.Copy.{copyRecords, copy, headWith}
+use Rattle.journal.specs.Calls.{check, walk, chainOf, chain, link, extended, newRecord, append, undo, openingAt, tableLeft, counts, start}
 use Rattle.model.proofs.Extension.{first-tag, latest-tag}
 use Rattle.journal.proofs.OrdersLaws.{decide-append-some, decide-cases}
-use Rattle.journal.proofs.Clear.{decide-clear, clear-left, clear-right}
+use Rattle.journal.proofs.Clear.{decide-clear, clear-left, clear-right, try-clear}
 use Rattle.journal.proofs.Checked.{Sound, clear-sound}
 use Rattle.journal.proofs.Unrefused.{room, chained-next, history-numbered}
 use Rattle.journal.proofs.Appending.{clear-appended, extended-behind}
@@ -258,9 +258,23 @@ behind-append b t n kind s x v =
     rw z (ap (λ k. drop k (extended b r)) (sym m) ∙ extended-behind b r (room b f .1) ∙ ap (λ k. drop k b) m))
     (λ q z. rw z)
 
+start-short : (b : List ℕ) (n : ℕ) → decide (startOrder b n) ≡ none → short b ≡ false
+unfolding startOrder
+start-short b n z = try-clear 1 0 _ (clear-left (try 1 0 (short b)) (try 2 0 (badItems n)) (decide-clear (try 1 0 (short b) ++ try 2 0 (badItems n)) z))
+
+behind-start : (b : List ℕ) (n : ℕ) → drop 20 (start b n .journal) ≡ drop 20 b
+unfolding start short
+behind-start b n =
+    decide-cases (startOrder b n)
+    (λ z.
+    let l : 20 ≤ length b = ltb-false (length b) 20 (start-short b n z) in
+    rw z (drop-store 0 (bytesOf (headWith 0 n)) b (omega (arith, length-bytesOf (headWith 0 n))) 20 (omega (arith, length-bytesOf (headWith 0 n)))))
+    (λ q z. rw z)
+
 pub behind : Behind
 behind =
     record {
+      start = behind-start;
       check = λ b c t a. check-agree b c a t;
       chain = λ b c s l a. chain-agree b c a s l;
       undo = λ b c t bad status out a. undo-agree b c a t bad status out;

@@ -9,14 +9,15 @@ use native.Mathlib.Omega.{arith}
 use lib.Dec.{eqb}
 use lib.IntN.{pos}
 use lib.ListN.{length, getD}
-use borrow.Author.Tests.{not-false}
+use borrow.Author.Tests.{not-false, eq-eqb}
+use Rattle.lists.proofs.SuffixLaws.{suffix-length, suffix-unique}
 use Rattle.lists.specs.Search.{any, latest, member}
 use Rattle.lists.proofs.BoolLaws.{byCases}
 use Rattle.lists.proofs.SearchLaws.{first-none}
-use Rattle.lists.proofs.TablesLaws.{tabulate-ext, tabulate-getD}
+use Rattle.lists.proofs.TablesLaws.{tabulate-ext, tabulate-getD, getD-tabulate}
 use Rattle.format.specs.Layout.{recordAt}
 use Rattle.model.specs.History.{Op, History, Amount, read, txOf, tagOf, ofTx, writeTo, committed}
-use Rattle.model.specs.Undo.{Upto, all, more, writeBy, sees, fed, surviving, only, retag, renumber, replayed}
+use Rattle.model.specs.Undo.{Upto, all, more, writeBy, sees, fed, surviving, only, retag, renumber, replayed, repaired}
 use Rattle.model.proofs.Closure.{upto-length, upto-unique, reached-empty}
 use Rattle.model.proofs.Removal.{same-feed-copy}
 use Rattle.model.proofs.Legal.{stand, Legal}
@@ -24,20 +25,20 @@ use Rattle.model.proofs.Strict.{legal-closed, val, latest-by}
 use Rattle.model.proofs.Repair.{read-stands, stand-unwritten}
 use Rattle.model.proofs.Renumber.{length-renumber, current-renumber, Untagged, writeBy-untagged, committed-renumber}
 use Rattle.model.proofs.Opening.{same-eq, standing-legal, replayed-val, finished-stand}
-use Rattle.journal.specs.Journal.{count, items, opOf, history, whole, amountAt}
+use Rattle.journal.specs.Journal.{count, items, opOf, history, whole, amountAt, txIn, records}
 use Rattle.journal.specs.Refusals.{unsettled}
 use Rattle.journal.specs.Orders.{Refusal, decide, undoOrder}
-use Rattle.journal.specs.Copy.{copy}
+use Rattle.journal.specs.Copy.{copy, linkedTo, copied, copyRecords}
 use Rattle.journal.specs.Calls.{undo, after, openingAt, tableLeft}
-use Rattle.journal.proofs.Records.{tagOf-opOf, history-suc, history-upto, length-history}
+use Rattle.journal.proofs.Records.{tagOf-opOf, history-suc, history-upto, length-history, opsOf, opsOf-copied, opsOf-records, length-opsOf, length-records, records-suc, records-suffix, copied-suffix, copied-yes, txOf-opOf}
 use Rattle.journal.proofs.Checked.{Checks}
 use Rattle.journal.proofs.Unrefused.{table-length}
 use Rattle.demands.specs.Days.{Day}
-use Rattle.demands.specs.Undoing.{copyIn, rank, image, SameRead, DeleteModel, EmptyList}
-use Rattle.demands.proofs.Left.{legal-day, copy-whole, left-amount}
+use Rattle.demands.specs.Undoing.{copyIn, rank, image, SameRead, DeleteModel, EmptyList, markOf}
+use Rattle.demands.proofs.Left.{legal-day, copy-whole, left-amount, copy-items, copy-records, copy-count, left-length}
 use Rattle.demands.proofs.DaysLaws.{pass-checks}
 use Rattle.demands.proofs.Undone.{finished-inactive, undo-table, undo-copy, accepted-clear}
-use Rattle.demands.proofs.Undoing.{tx-range}
+use Rattle.demands.proofs.Undoing.{tx-range, mark-surviving}
 
 -- ---- parts of the copy
 
@@ -116,15 +117,61 @@ module _ (b : List ℕ) (t : List Amount) (day : Day b t) (bad : List ℕ) where
             ∙ read-stands (openingAt b t) bad (whole b) (legal-day b t (day .bytes) checks) x (suc i) s (history b i) u h);
       }
 
+  -- ---- the copy's records
+
+  rank-copied : (i : ℕ) → length (copied (surviving bad (whole b)) (repaired bad (whole b)) (records b i)) ≡ rank bad b i
+  rank-copied i =
+      let k = surviving bad (whole b) in
+      let h = repaired bad (whole b) in
+      sym (length-opsOf (copied k h (records b i))) ∙ ap length (opsOf-copied k h (records b i)) ∙ length-renumber (only k (opsOf (records b i)))
+      ∙ ap (λ p. length (only k p)) (opsOf-records b i)
+
+  copy-count-rank : count (copy bad b) ≡ rank bad b (count b)
+  unfolding copyRecords
+  copy-count-rank = copy-count b t (day .bytes) checks bad ∙ rank-copied (count b)
+
+  -- its first records are those that come of the journal's first
+  records-part : (i : ℕ) → i ≤ count b → records (copy bad b) (rank bad b i) ≡ copied (surviving bad (whole b)) (repaired bad (whole b)) (records b i)
+  unfolding copyRecords
+  records-part i h =
+      let u = copied-suffix (surviving bad (whole b)) (repaired bad (whole b)) (records-suffix b i (count b) h) in
+      let l : rank bad b i ≤ count (copy bad b) = omega (arith, suffix-length u, rank-copied i, rank-copied (count b), copy-count-rank) in
+      suffix-unique (rw (copy-records b t (day .bytes) checks bad) at (records-suffix (copy bad b) (rank bad b i) (count (copy bad b)) l)) u
+      (length-records (copy bad b) (rank bad b i) ∙ sym (rank-copied i))
+
+  same-record : (i : ℕ) → i < count b → surviving bad (whole b) (txIn (recordAt b (suc i))) ≡ true → linkedTo 0 (recordAt (copy bad b) (rank bad b (suc i))) ≡ linkedTo 0 (recordAt b (suc i))
+  same-record i l e =
+      let kept : surviving bad (whole b) (txOf (opOf (suc i) (recordAt b (suc i)))) ≡ true = ap (surviving bad (whole b)) (txOf-opOf (suc i) (recordAt b (suc i))) ∙ e in
+      let r : rank bad b (suc i) ≡ suc (rank bad b i) = rw (history-suc b i, kept) in
+      let q = sym (records-suc (copy bad b) (rank bad b i)) ∙ ap (records (copy bad b)) (sym r) ∙ records-part (suc i) (omega arith)
+      ∙ ap (copied (surviving bad (whole b)) (repaired bad (whole b))) (records-suc b i)
+      ∙ copied-yes (surviving bad (whole b)) (repaired bad (whole b)) (recordAt b (suc i)) (records b i) e in
+      rw r (ap (linkedTo 0) (head-eq-of-cons-eq q))
+
+left-replayed : (b : List ℕ) (t : List Amount) (bad : List ℕ) (x : ℕ) → x < length t → amountAt (tableLeft bad b t) x ≡ replayed (surviving bad (whole b)) (openingAt b t x) (whole b) x
+unfolding tableLeft
+left-replayed b t bad x h =
+    getD-tabulate (λ x. replayed (surviving bad (whole b)) (openingAt b t x) (whole b) x) 0 (length t) x (pos 0) h
+    ∙ ap (λ y. replayed (surviving bad (whole b)) (openingAt b t y) (whole b) y) (omega arith)
+
 pub delete-model : DeleteModel
 delete-model b t bad status out n a =
     let k = pass-checks b t (a .day .pass) in
     let (c, e) = accepted-clear a in
     let q : copyIn (undo b t bad status out) n ≡ copy bad b = rw (← e) (undo-copy b t bad status out c) in
-    rw (q, undo-table b t bad status out c)
+    let m : (s : ℕ) → markOf (undo b t bad status out) s ≡ 1 → surviving bad (whole b) s ≡ true = λ s h. sym (mark-surviving b t bad status out (a .day) c s) ∙ eq-eqb _ 1 h in
+    let w = undo-table b t bad status out c in
+    rw q
     (record {
-      reads = λ i s x l o h. same-read b t (a .day) bad i s x l o h;
-      table = λ x h. left-amount b t (a .day .bytes) k bad x (omega (arith, table-length b t (k .table)));
+      recordCount = copy-count-rank b t (a .day) bad;
+      itemCount = copy-items b t (a .day .bytes) k bad;
+      fields = λ i l h. same-record b t (a .day) bad i l (m (txIn (recordAt b (suc i))) h);
+      reads = λ i s x l o h. same-read b t (a .day) bad i s x l o (m s h);
+      size = ap length w ∙ left-length b t (a .day .bytes) k bad;
+      replay = λ x h.
+          ap (λ u. amountAt u x) w ∙ left-replayed b t bad x (omega (arith, table-length b t (k .table)))
+          ∙ ap (λ (f : ℕ → Bool). replayed f (openingAt b t x) (whole b) x) (sym (fun-ext (mark-surviving b t bad status out (a .day) c)));
+      standing = λ x h. ap (λ u. amountAt u x) w ∙ left-amount b t (a .day .bytes) k bad x (omega (arith, table-length b t (k .table)));
     })
 
 -- ---- the table is the standing amounts at the end

@@ -6,6 +6,8 @@ pub mod Deleted
 pub mod Join
 pub mod Cut
 pub mod Posting
+pub mod Examples
 pub mod PostingDay
 pub mod Refusing
 pub mod Behind
+pub mod WorkedDays

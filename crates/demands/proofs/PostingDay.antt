@@ -2,44 +2,19 @@
 -- journal of 11 records rebuilt. The hypotheses hold by computation.
 -- Assumes nothing.
 use mathlib.Core.Path.{_≡_, refl}
-use mathlib.Core.Bool.{Bool, true, _&&_}
 use mathlib.Core.List.{List, [], _∷_, _++_}
 use Prim.Native.Nat.{ℕ, _<_}
 use native.Mathlib.Omega.{arith}
-use lib.Dec.{ltb}
 use lib.IntN.{pos}
 use lib.ListN.{replicate}
 use mir.Syntax.{w32}
 use mir.Val.{SFits}
-use borrow.Author.Tests.{ltb-true}
-use Rattle.lists.specs.Tables.{tabulate, each, store}
-use Rattle.lists.proofs.BoolLaws.{and-left, and-right}
-use Rattle.format.specs.Bytes.{Bytes, none, byte, value, bytes}
-use Rattle.format.specs.Layout.{parsed, printed, recordOf, bytesOf, recordAt}
 use Rattle.model.specs.History.{Amount}
-use Rattle.journal.specs.Journal.{count, items, opOf, history, whole}
-use Rattle.journal.specs.Refusals.{short, torn, badItems, badHead, wrongTable, malformed, unchained, closed, crossed, blind, mismatched, unsettled, noRoom, tallied, wrongTally}
-use Rattle.journal.specs.Orders.{try, decide, openOrder, recordOrder, recordsOrder, tableOrder, settledOrder, checkOrder, startOrder, appendOrder}
-use Rattle.journal.specs.Calls.{Answer, refused, accepted, start, check, link, extended, tableAfter, raised, append}
+use Rattle.journal.specs.Calls.{Answer, refused, accepted}
 use Rattle.demands.specs.Days.{none, amount}
 use Rattle.demands.specs.Posting.{Post, Given, none, given, Desk, posted, deskAfter, run, opened, Booked, Rebuilt}
+use Rattle.demands.proofs.Examples.{computed, below-bytes, example, exampleTable}
 use Rattle.demands.proofs.Posting.{posting-reads, rebuilding}
-
--- the definitions that the instances compute with
-computing : Unit {0}
-unfolding tabulate each store value bytes parsed printed recordOf bytesOf recordAt count items opOf history whole short torn badItems badHead wrongTable malformed unchained closed crossed blind mismatched unsettled noRoom tallied wrongTally try decide openOrder recordOrder recordsOrder tableOrder settledOrder checkOrder startOrder appendOrder start check link extended tableAfter raised append run
-computing = tt
-
--- ---- bytes and amounts by a test
-
-belowAll : List ℕ → Bool
-belowAll [] = true
-belowAll (x ∷ b) = ltb x 256 && belowAll b
-
-below-bytes : (b : List ℕ) → belowAll b ≡ true → Bytes b
-unfolding belowAll
-below-bytes [] e = none
-below-bytes (x ∷ b) e = byte (ltb-true x 256 (and-left (ltb x 256) (belowAll b) e)) (below-bytes b (and-right (ltb x 256) (belowAll b) e))
 
 small : (n : ℕ) → n < 2147483648 → SFits w32 (pos n)
 small n h = record { sfits = h }
@@ -65,7 +40,7 @@ answers d [] = []
 answers d (p ∷ ps) = posted d p .answer ∷ answers (deskAfter d p) ps
 
 pub posts-answers : answers (opened paper 3 opens) posts ≡ accepted tt ∷ refused 8 2 ∷ accepted tt ∷ accepted tt ∷ []
-unfolding computing paper opens posts answers
+unfolding computed run paper opens posts answers
 posts-answers = refl
 
 -- the head, three records, record 2 as the document prints it, and the paper behind
@@ -75,11 +50,11 @@ pub posts-journal : run (opened paper 3 opens) posts .journal
     ++ (0x02 ∷ 0x00 ∷ 0x01 ∷ 0x00 ∷ 0x03 ∷ 0x00 ∷ 0x00 ∷ 0x00 ∷ 0x00 ∷ 0x00 ∷ 0x00 ∷ 0x00 ∷ 0xf4 ∷ 0x01 ∷ 0x00 ∷ 0x00 ∷ 0x40 ∷ 0x01 ∷ 0x00 ∷ 0x00 ∷ [])
     ++ (1 ∷ 0 ∷ 1 ∷ 0 ∷ 0 ∷ 0 ∷ 0 ∷ 0 ∷ 1 ∷ 0 ∷ 0 ∷ 0 ∷ 0 ∷ 0 ∷ 0 ∷ 0 ∷ 0 ∷ 0 ∷ 0 ∷ 0 ∷ [])
     ++ replicate 20 7
-unfolding computing paper opens posts
+unfolding computed run paper opens posts
 posts-journal = refl
 
 pub posts-table : run (opened paper 3 opens) posts .table ≡ pos 320 ∷ pos 0 ∷ pos 1000 ∷ []
-unfolding computing paper opens posts
+unfolding computed run paper opens posts
 posts-table = refl
 
 -- what a call is given fits its types, for small numbers
@@ -87,7 +62,7 @@ givenSmall : (k s x n : ℕ) → k < 256 → s < 65536 → x < 4294967296 → n 
 givenSmall k s x n a b c d = record { kind = a; tx = b; item = c; after = small n d }
 
 pub posts-booked : Booked (opened paper 3 opens) posts (run (opened paper 3 opens) posts)
-unfolding computing paper opens posts belowAll
+unfolding computed run paper opens posts
 posts-booked =
     posting-reads paper 3 opens posts (below-bytes paper refl) refl refl
     (amount (small 500 (omega arith)) (amount (small 0 (omega arith)) (amount (small 1000 (omega arith)) none)))
@@ -98,24 +73,6 @@ posts-booked =
 
 -- ---- the example's journal rebuilt
 
-pub journal : List ℕ
-journal =
-    (0 ∷ 0 ∷ 0 ∷ 0 ∷ 11 ∷ 0 ∷ 0 ∷ 0 ∷ 3 ∷ 0 ∷ 0 ∷ 0 ∷ 0 ∷ 0 ∷ 0 ∷ 0 ∷ 0 ∷ 0 ∷ 0 ∷ 0 ∷ [])
-    ++ (1 ∷ 0 ∷ 1 ∷ 0 ∷ 2 ∷ 0 ∷ 0 ∷ 0 ∷ 0 ∷ 0 ∷ 0 ∷ 0 ∷ 0 ∷ 0 ∷ 0 ∷ 0 ∷ 0 ∷ 0 ∷ 0 ∷ 0 ∷ [])
-    ++ (2 ∷ 0 ∷ 1 ∷ 0 ∷ 3 ∷ 0 ∷ 0 ∷ 0 ∷ 0 ∷ 0 ∷ 0 ∷ 0 ∷ 244 ∷ 1 ∷ 0 ∷ 0 ∷ 64 ∷ 1 ∷ 0 ∷ 0 ∷ [])
-    ++ (1 ∷ 0 ∷ 1 ∷ 0 ∷ 4 ∷ 0 ∷ 0 ∷ 0 ∷ 1 ∷ 0 ∷ 0 ∷ 0 ∷ 0 ∷ 0 ∷ 0 ∷ 0 ∷ 0 ∷ 0 ∷ 0 ∷ 0 ∷ [])
-    ++ (2 ∷ 0 ∷ 1 ∷ 0 ∷ 5 ∷ 0 ∷ 0 ∷ 0 ∷ 1 ∷ 0 ∷ 0 ∷ 0 ∷ 0 ∷ 0 ∷ 0 ∷ 0 ∷ 1 ∷ 0 ∷ 0 ∷ 0 ∷ [])
-    ++ (3 ∷ 0 ∷ 1 ∷ 0 ∷ 0 ∷ 0 ∷ 0 ∷ 0 ∷ 0 ∷ 0 ∷ 0 ∷ 0 ∷ 0 ∷ 0 ∷ 0 ∷ 0 ∷ 0 ∷ 0 ∷ 0 ∷ 0 ∷ [])
-    ++ (1 ∷ 0 ∷ 2 ∷ 0 ∷ 8 ∷ 0 ∷ 0 ∷ 0 ∷ 1 ∷ 0 ∷ 0 ∷ 0 ∷ 0 ∷ 0 ∷ 0 ∷ 0 ∷ 0 ∷ 0 ∷ 0 ∷ 0 ∷ [])
-    ++ (1 ∷ 0 ∷ 3 ∷ 0 ∷ 9 ∷ 0 ∷ 0 ∷ 0 ∷ 2 ∷ 0 ∷ 0 ∷ 0 ∷ 0 ∷ 0 ∷ 0 ∷ 0 ∷ 0 ∷ 0 ∷ 0 ∷ 0 ∷ [])
-    ++ (2 ∷ 0 ∷ 2 ∷ 0 ∷ 10 ∷ 0 ∷ 0 ∷ 0 ∷ 1 ∷ 0 ∷ 0 ∷ 0 ∷ 1 ∷ 0 ∷ 0 ∷ 0 ∷ 0 ∷ 0 ∷ 0 ∷ 0 ∷ [])
-    ++ (2 ∷ 0 ∷ 3 ∷ 0 ∷ 11 ∷ 0 ∷ 0 ∷ 0 ∷ 2 ∷ 0 ∷ 0 ∷ 0 ∷ 232 ∷ 3 ∷ 0 ∷ 0 ∷ 156 ∷ 4 ∷ 0 ∷ 0 ∷ [])
-    ++ (3 ∷ 0 ∷ 2 ∷ 0 ∷ 0 ∷ 0 ∷ 0 ∷ 0 ∷ 0 ∷ 0 ∷ 0 ∷ 0 ∷ 0 ∷ 0 ∷ 0 ∷ 0 ∷ 0 ∷ 0 ∷ 0 ∷ 0 ∷ [])
-    ++ (3 ∷ 0 ∷ 3 ∷ 0 ∷ 0 ∷ 0 ∷ 0 ∷ 0 ∷ 0 ∷ 0 ∷ 0 ∷ 0 ∷ 0 ∷ 0 ∷ 0 ∷ 0 ∷ 0 ∷ 0 ∷ 0 ∷ 0 ∷ [])
-
-pub table : List Amount
-table = pos 320 ∷ pos 0 ∷ pos 1180 ∷ []
-
-pub example-rebuilt : Rebuilt journal table (replicate 240 9)
-unfolding computing journal table belowAll
-example-rebuilt = rebuilding journal table (replicate 240 9) (below-bytes journal refl) (below-bytes (replicate 240 9) refl) refl (omega arith)
+pub example-rebuilt : Rebuilt example exampleTable (replicate 240 9)
+unfolding computed run example exampleTable
+example-rebuilt = rebuilding example exampleTable (replicate 240 9) (below-bytes example refl) (below-bytes (replicate 240 9) refl) refl (omega arith)

@@ -4,7 +4,7 @@ use mathlib.Core.Path.{_≡_, refl, sym, _∙_, ap, fun-ext}
 use mathlib.Core.Bool.{Bool, true, false, not, false≢true}
 use mathlib.Core.Logic.{_⊎_, inl, inr}
 use mathlib.Core.List.{List}
-use Prim.Native.Nat.{ℕ, zero, suc, _+_, _≤_}
+use Prim.Native.Nat.{ℕ, zero, suc, _+_, _≤_, _*_}
 use native.Mathlib.Omega.{arith}
 use lib.Dec.{eqb, ltb}
 use lib.ListN.{length, getD, List·getD-eq-default}
@@ -33,7 +33,7 @@ use Rattle.demands.specs.Days.{accepts, Day}
 use Rattle.demands.specs.Undoing.{Accepting, Acceptance, CopyFits, NeverShort, copyIn, LeftPasses, markOf, UndoSet, LeastSet, FewestSales, Fewest}
 use Rattle.demands.specs.Refusing.{Unsound, by-short, by-torn, by-head, by-smudge, by-chain, by-closed, by-crossed, by-blind, by-before, Unpassed, by-unsound, by-table, by-close, Untaken, unpassed-undo, by-open, by-marks, by-unknown, by-paper}
 use Rattle.demands.proofs.Refusing.{only-under}
-use Rattle.demands.proofs.Left.{legal-day, copy-few, copy-length, copy-bytes, copy-checks, copy-openingTable, copy-ended}
+use Rattle.demands.proofs.Left.{legal-day, copy-few, copy-length, copy-bytes, copy-checks, copy-openingTable, copy-ended, copy-count}
 use Rattle.demands.proofs.DaysLaws.{pass-checks, checks-pass}
 use Rattle.demands.proofs.Undone.{clear-accepting, accepting-clear, undo-accepts, undo-answer, undo-table, undo-status, undo-copy, undo-behind, accepted-clear}
 
@@ -97,6 +97,10 @@ never-short b t bad status out place d h e =
 
 -- ---- 2. what is left passes
 
+bytes-copy : (bad b : List ℕ) → counts bad b .bytes ≡ length (copy bad b)
+unfolding counts
+bytes-copy bad b = refl
+
 pub left-passes : LeftPasses
 left-passes b t bad status out n a =
     let k = pass-checks b t (a .day .pass) in
@@ -111,6 +115,7 @@ left-passes b t bad status out n a =
             finished = copy-ended b t (a .day .bytes) k bad;
           });
       opening = rw (q, undo-table b t bad status out c) (copy-openingTable b t (a .day .bytes) k bad);
+      size = ap (λ m. m .bytes) (sym e) ∙ bytes-copy bad b ∙ copy-length b t (a .day .bytes) k bad ∙ ap (λ m. 20 * (m + 1)) (sym (ap count q ∙ copy-count b t (a .day .bytes) k bad));
       behind = rw (← e) (undo-behind b t bad status out c);
     }
 

@@ -95,7 +95,7 @@ pub record Same (c : Course) (d : Done) (r : Undone) (n : Counts) : Type 0 where
 
 -- what holds after any sequence of calls
 pub record Cut (b : List ℕ) (t : List Amount) (c : Course) : Type 0 where
-  -- the next call, whatever it brings, is accepted exactly as demand 3 says
+  -- the next call, whatever it brings, is accepted exactly as demand 3 says: so is each call of a sequence, since those before it are one
   pub acceptance : (k : Call) → (accepts (called c k .answer) ≡ true) ↔ Accepting (c .journal) (struck (c .calls) (k .bad)) (k .status) (k .out)
   -- none accepted: journal and table unchanged
   pub unchanged : c .calls ≡ [] → (c .journal ≡ b) × (c .table ≡ t)

@@ -131,9 +131,10 @@ pub record Agree (b c : List ℕ) : Type 0 where
   pub right : 20 * (count b + 1) ≤ length c
   pub same : take (20 * (count b + 1)) b ≡ take (20 * (count b + 1)) c
 
--- They get the same answers and writes. Only the length counts, and only in post's 14; only an accepted post changes bytes behind, and
--- only its record's 20.
+-- They get the same answers and writes. Only the length counts, and only in post's 14, so post is compared where that gives the same;
+-- only an accepted post changes bytes behind, and only its record's 20. Start writes the head alone.
 pub record Behind : Type 0 where
+  pub start : (b : List ℕ) (n : ℕ) → drop 20 (start b n .journal) ≡ drop 20 b
   pub check : (b c : List ℕ) (t : List Amount) → Agree b c → check b t ≡ check c t
   pub chain : (b c : List ℕ) (s : ℕ) (l : List ℕ) → Agree b c → chain b s l ≡ chain c s l
   pub undo : (b c : List ℕ) (t : List Amount) (bad status out : List ℕ) → Agree b c → undo b t bad status out ≡ undo c t bad status out

@@ -13,9 +13,9 @@ use Rattle.lists.specs.Search.{member}
 use Rattle.lists.specs.Tables.{number}
 use Rattle.format.specs.Layout.{recordAt}
 use Rattle.model.specs.History.{Op, History, Amount, read, tagOf, committed, aborted, current}
-use Rattle.model.specs.Undo.{Upto, Closed, fed, surviving, only, without, retag}
-use Rattle.journal.specs.Journal.{count, items, opOf, history, whole, amountAt}
-use Rattle.journal.specs.Copy.{copy}
+use Rattle.model.specs.Undo.{Upto, Closed, fed, surviving, only, without, retag, replayed}
+use Rattle.journal.specs.Journal.{count, items, opOf, history, whole, amountAt, txIn}
+use Rattle.journal.specs.Copy.{copy, linkedTo}
 use Rattle.journal.specs.Calls.{refused, accepted, Counts, Undone, undo, openingAt, openingTable}
 use Rattle.demands.specs.Days.{accepts, Day}
 
@@ -60,6 +60,7 @@ copyIn r n = take (n .bytes) (r .out)
 pub record Left (b : List ℕ) (t : List Amount) (out : List ℕ) (r : Undone) (n : Counts) : Type 0 where
   pub day : Day (copyIn r n) (r .table)
   pub opening : openingTable (copyIn r n) (r .table) ≡ openingTable b t
+  pub size : n .bytes ≡ 20 * (count (copyIn r n) + 1)
   pub behind : drop (n .bytes) (r .out) ≡ drop (n .bytes) out
 
 -- The copy and table that an accepted call leaves pass too, with every sale finished, and have the same opening table. The paper
@@ -135,16 +136,24 @@ pub record SameRead (bad b : List ℕ) (t : List Amount) (c : List ℕ) (i s x :
   pub fed : fed (history c (rank bad b i)) s x ≡ image bad b (fed (history b i) s x)
   pub amount : current (openingAt b t x) (history c (rank bad b i)) x ≡ current (openingAt b t x) (history b i) x
 
-pub record Deleted (bad b : List ℕ) (t : List Amount) (c : List ℕ) (left : List Amount) : Type 0 where
-  pub reads : (i s x : ℕ) → i < count b → opOf (suc i) (recordAt b (suc i)) ≡ read (suc i) s x → surviving bad (whole b) s ≡ true
-      → SameRead bad b t c i s x
-  pub table : (x : ℕ) → x < items b → amountAt left x ≡ current (openingAt b t x) (whole c) x
+-- the copy c and the table left, of the call that answered r
+pub record Deleted (bad b : List ℕ) (t : List Amount) (r : Undone) (c : List ℕ) : Type 0 where
+  -- just the kept sales' records in order, renumbered, all fields but next unchanged
+  pub recordCount : count c ≡ rank bad b (count b)
+  pub itemCount : items c ≡ items b
+  pub fields : (i : ℕ) → i < count b → markOf r (txIn (recordAt b (suc i))) ≡ 1
+      → linkedTo 0 (recordAt c (rank bad b (suc i))) ≡ linkedTo 0 (recordAt b (suc i))
+  pub reads : (i s x : ℕ) → i < count b → opOf (suc i) (recordAt b (suc i)) ≡ read (suc i) s x → markOf r s ≡ 1 → SameRead bad b t c i s x
+  -- the opening table with the afters of all kept writes set in record order, which is the copy's standing amounts
+  pub size : length (r .table) ≡ length t
+  pub replay : (x : ℕ) → x < items b → amountAt (r .table) x ≡ replayed (λ s. eqb (markOf r s) 1) (openingAt b t x) (whole b) x
+  pub standing : (x : ℕ) → x < items b → amountAt (r .table) x ≡ current (openingAt b t x) (whole c) x
 
--- In the copy each read is fed by the image of the write that fed it on the day, or by the same opening amount, and finds the same
--- standing amount. The table left is the copy's standing amounts from the opening table.
+-- The copy has just the kept sales' records, and in it each read is fed by the image of the write that fed it on the day, or by the same
+-- opening amount, and finds the same standing amount. The table left is the copy's standing amounts from the opening table.
 abbrev pub DeleteModel : Type 0
 DeleteModel = (b : List ℕ) (t : List Amount) (bad status out : List ℕ) (n : Counts) → Accepted b t bad status out n
-    → Deleted bad b t (copyIn (undo b t bad status out) n) (undo b t bad status out .table)
+    → Deleted bad b t (undo b t bad status out) (copyIn (undo b t bad status out) n)
 
 -- An empty list leaves the table unchanged.
 abbrev pub EmptyList : Type 0

@@ -8,6 +8,7 @@ use native.Mathlib.Omega.{arith}
 use lib.Dec.{eqb}
 use borrow.Author.Tests.{eqb-true, eqb-false}
 use lib.ListN.{length}
+use Rattle.lists.proofs.SuffixLaws.{Suffix, same, behind}
 use Rattle.lists.proofs.BoolLaws.{byCases, clash}
 use Rattle.format.specs.declared.Record.{Record}
 use Rattle.format.specs.Layout.{recordAt}
@@ -182,3 +183,22 @@ records-zero b = refl
 pub records-suc : (b : List ℕ) (n : ℕ) → records b (suc n) ≡ recordAt b (suc n) ∷ records b n
 unfolding records
 records-suc b n = refl
+
+pub records-suffix : (b : List ℕ) (m n : ℕ) → m ≤ n → Suffix (records b m) (records b n)
+unfolding records
+records-suffix b m zero h = let e : m ≡ 0 = omega arith in rw e same
+records-suffix b m (suc n) h =
+    byCases (eqb m (suc n))
+    (λ e. rw (eqb-true m (suc n) e) same)
+    (λ e. let d = eqb-false m (suc n) e in behind (records-suffix b m n (omega arith)))
+
+pub copied-suffix : (k : ℕ → Bool) (h : History) {p l : List Record} → Suffix p l → Suffix (copied k h p) (copied k h l)
+unfolding copied
+copied-suffix k h same = same
+copied-suffix k h (behind {a = r} i) = byCases (k (txIn r)) (λ e. rw e (behind (copied-suffix k h i))) (λ e. rw e (copied-suffix k h i))
+
+-- one record more, of a transaction of k
+pub copied-yes : (k : ℕ → Bool) (h : History) (r : Record) (rs : List Record) → k (txIn r) ≡ true
+    → copied k h (r ∷ rs) ≡ linkedTo (nextIn h (suc (length (copied k h rs))) (txIn r)) r ∷ copied k h rs
+unfolding copied
+copied-yes k h r rs e = rw e
