@@ -35,14 +35,14 @@ pub record Checks (b : List ℕ) (t : List Amount) : Type 0 where
   pub table : wrongTable b t ≡ false
   pub settled : (x : ℕ) → x < items b → unsettled b t x ≡ false
 
-record-clear : (b : List ℕ) (i : ℕ) → RecordRight b (suc i) (history b i) → Clear (recordOrder b (suc i))
+pub record-clear : (b : List ℕ) (i : ℕ) → RecordRight b (suc i) (history b i) → Clear (recordOrder b (suc i))
 unfolding recordOrder
 record-clear b i r =
     clear-append
     (clear-append (clear-append (clear-append (clear-append (clear-try 4 _ _ (r .formed)) (clear-try 5 _ _ (r .chained))) (clear-try 6 _ _ (r .unclosed))) (clear-try 7 _ _ (r .uncrossed))) (clear-try 8 _ _ (r .sighted)))
     (clear-try 9 _ _ (r .matched))
 
-clear-record : (b : List ℕ) (i : ℕ) → Clear (recordOrder b (suc i)) → RecordRight b (suc i) (history b i)
+pub clear-record : (b : List ℕ) (i : ℕ) → Clear (recordOrder b (suc i)) → RecordRight b (suc i) (history b i)
 unfolding recordOrder
 clear-record b i c =
     let o4 : Order = try 4 (suc i) (malformed (items b) (recordAt b (suc i))) in

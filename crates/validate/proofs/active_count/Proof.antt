@@ -1,0 +1,67 @@
+-- `validate::active_count` meets its contract. The loop: the transactions below s that are active are counted.
+-- Assumes nothing.
+use Rattle.validate.specs.Answers.{activeIn}
+use Rattle.lists.specs.Tables.{number}
+use denote.Ref.{now}
+use native.Mathlib.Omega.{arith}
+use Prim.Native.Nat.{_≤_, _<_, _-_}
+use mathlib.Core.Path.{_≡_, _∙_}
+use mathlib.Core.Logic.{⊎-elim}
+use Rattle.validate.proofs.Final.{count-start, count-yes, count-no, count-done}
+use Rattle.validate.proofs.active_count.Statement.{statement}
+use Rattle.validate.proofs.active_count.Tie as tie
+
+abbrev Inv-loop : tie.InvT-loop
+Inv-loop ends firsts count₀ s₀ count s = (1 ≤ s) × (s ≤ 1025) × (count ≡ number (activeIn ends firsts) 1 (s - 1)) × (count < s)
+
+abbrev μ-loop : tie.MeasureT-loop
+μ-loop ends firsts count₀ s₀ count s = 1025 - s
+
+loop-holds : tie.Need-loop-holds Inv-loop μ-loop
+loop-holds c =
+    (omega arith, omega arith, search count-start, omega arith)
+
+is-active-requires : tie.Need-is-active-requires Inv-loop μ-loop
+is-active-requires c κs =
+    omega arith
+
+add-count : tie.Need-add-count Inv-loop μ-loop
+add-count c =
+    omega arith
+
+add-s : tie.Need-add-s Inv-loop μ-loop
+add-s c =
+    omega arith
+
+loop-less : tie.Need-loop-less Inv-loop μ-loop
+loop-less c =
+    omega arith
+
+loop-again : tie.Need-loop-again Inv-loop μ-loop
+loop-again c =
+    let l = c .before .before .before .loop in
+    let a = c .before .before .before .before .before .before .args in
+    let f = activeIn (now (a .ends)) (now (a .firsts)) in
+    let r = c .before .is-active in
+    ⊎-elim
+    (λ w. (omega arith, omega arith, w .1 ∙ count-yes f (l .s) (l .count) (l .inv .0) (l .inv .2) (r .result) (r .ensures) (w .0 .taken), omega arith))
+    (λ w. (omega arith, omega arith, w .1 ∙ count-no f (l .s) (l .count) (l .inv .0) (l .inv .2) (r .result) (r .ensures) (w .0 .left), omega arith))
+    (c .if1 .came)
+
+returns : tie.Need-returns Inv-loop μ-loop
+returns c =
+    search count-done
+
+pub active-count-spec : {M : Type 1} → statement M
+active-count-spec =
+    tie.close
+    (tie.spec
+    Inv-loop
+    μ-loop
+    loop-holds
+    is-active-requires
+    add-count
+    add-s
+    loop-less
+    loop-again
+    returns)

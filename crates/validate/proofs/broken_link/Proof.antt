@@ -1,0 +1,58 @@
+-- `validate::broken_link` meets its contract. The loop: the slots hold the lowest later record of each transaction, and `low` the lowest record after record i whose next is wrong.
+-- Assumes nothing.
+use Rattle.validate.proofs.Chain.{slots-count, slots-same}
+use native.Mathlib.Omega.{arith}
+use Prim.Native.Nat.{_≤_, _-_, _+_}
+use mathlib.Core.Path.{_≡_}
+use Rattle.validate.specs.Arrays.{nextsOf, lowestBroken}
+use Rattle.validate.proofs.Chain.{back-start, back-start-low, back-step, back-done}
+use Rattle.validate.proofs.broken_link.Statement.{statement}
+use Rattle.validate.proofs.broken_link.Tie as tie
+
+abbrev Inv-loop : tie.InvT-loop
+Inv-loop journal n slots₀ low₀ i₀ slots low i = (i ≤ n) × (slots ≡ nextsOf journal i) × (low ≡ lowestBroken journal (i + 1) (n - i))
+
+abbrev μ-loop : tie.MeasureT-loop
+μ-loop journal n slots₀ low₀ i₀ slots low i = i
+
+loop-holds : tie.Need-loop-holds Inv-loop μ-loop
+loop-holds c =
+    (omega arith, search back-start, search back-start-low)
+
+sub-i : tie.Need-sub-i Inv-loop μ-loop
+sub-i c =
+    omega arith
+
+slice-aggregate-step-back : tie.Need-slice-aggregate-step-back Inv-loop μ-loop
+slice-aggregate-step-back c =
+    search slots-count
+
+step-back-requires : tie.Need-step-back-requires Inv-loop μ-loop
+step-back-requires c κs =
+    (omega arith, omega arith, omega arith, search slots-same)
+
+loop-less : tie.Need-loop-less Inv-loop μ-loop
+loop-less c =
+    omega arith
+
+loop-again : tie.Need-loop-again Inv-loop μ-loop
+loop-again c =
+    (omega arith, search, search back-step)
+
+returns : tie.Need-returns Inv-loop μ-loop
+returns c =
+    search back-done
+
+pub broken-link-spec : {M : Type 1} → statement M
+broken-link-spec =
+    tie.close
+    (tie.spec
+    Inv-loop
+    μ-loop
+    loop-holds
+    sub-i
+    slice-aggregate-step-back
+    step-back-requires
+    loop-less
+    loop-again
+    returns)
