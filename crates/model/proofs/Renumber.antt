@@ -210,7 +210,7 @@ repaired-renumber l p = ap (λ k. renumber (only k (renumber p))) (fun-ext (surv
 
 -- ---- record numbers of a renumbered history
 
-tagOf-retag : (i : Tag) (r : Op) → tagOf (retag i r) ≡ i
+pub tagOf-retag : (i : Tag) (r : Op) → tagOf (retag i r) ≡ i
 tagOf-retag i (read t s x) = refl
 tagOf-retag i (write t s x b a) = refl
 tagOf-retag i (commit t s) = refl

@@ -19,7 +19,7 @@ use Rattle.model.proofs.Removal.{commit-of, end-of, read-of, any-only, 
 use Rattle.model.proofs.Legal.{stand, LegalStep, Legal}
 use Rattle.model.proofs.Strict.{legal-closed, uncrossed-any, latest-by, latest-within, excl, val, inv, write-before, not-committed, neq-sym, write-of, write-to, read-access, unlike, Alone}
 
-legal-ends : (o : ℕ → Amount) {p j : History} → Legal o j → Upto p j → Legal o p
+pub legal-ends : (o : ℕ → Amount) {p j : History} → Legal o j → Upto p j → Legal o p
 legal-ends o k all = k
 legal-ends o k (more i) = legal-ends o (k .0) i
 
@@ -35,7 +35,7 @@ ends-surviving h (z ∷ q) {r} {p} i =
     (λ e. ends-surviving h q (rw e at i))
 
 -- once a transaction has ended, it is committed or not for good
-after-end : (v : ℕ) {p j : History} → EndsLast j → Upto p j → ended p v ≡ true → committed j v ≡ committed p v
+pub after-end : (v : ℕ) {p j : History} → EndsLast j → Upto p j → ended p v ≡ true → committed j v ≡ committed p v
 after-end v c all e = refl
 after-end v c (more {q} {j} i) e =
     byCases (commitOf v q)

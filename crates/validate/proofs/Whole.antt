@@ -77,7 +77,7 @@ module _ (b : List ℕ) (h : Headed) (q : headerOf h ≡ answered (decide (openO
 -- ---- the table's length
 
 module _ (b : List ℕ) (n m : ℕ) (t : List Amount) (h : Headed) (q : headerOf h ≡ answered (decide (openOrder b)) (sizeOf b)) (e : h ≡ headed.Counts n m) where
-  table-parts : decide (checkOrder b t) ≡ orElse (cond (not (eqb (length t) m)) (some (record { number = 3; place = 0 })) none) (decide (laterOrder b t))
+  pub table-parts : decide (checkOrder b t) ≡ orElse (cond (not (eqb (length t) m)) (some (record { number = 3; place = 0 })) none) (decide (laterOrder b t))
   unfolding checkOrder tableOrder wrongTable laterOrder
   table-parts =
       rw (decide-append (openOrder b ++ tableOrder b t ++ recordsOrder b) (settledOrder b t), decide-append (openOrder b ++ tableOrder b t) (recordsOrder b), decide-append (openOrder b) (tableOrder b t), parts b h q n m e .0, decide-try 3 0 (wrongTable b t), decide-append (recordsOrder b) (settledOrder b t), header-opened b h q n m e .keys)

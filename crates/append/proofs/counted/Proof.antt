@@ -1,0 +1,62 @@
+-- `append::counted` meets its contract: after i records the counts are those of the first i.
+-- Assumes nothing.
+use mathlib.Core.Path.{_≡_}
+use Prim.Native.Nat.{_≤_, _-_}
+use native.Mathlib.Omega.{arith}
+use borrow.Author.Needs.{needs}
+use Rattle.journal.specs.Journal.{history}
+use Rattle.journal.specs.Refusals.{tallied}
+use Rattle.append.specs.Answers.{tallyOf}
+use Rattle.append.proofs.Tallies.{counting-start, counting-few, counting-long, counting-step, counting-end}
+use Rattle.append.proofs.counted.Statement.{statement}
+use Rattle.append.proofs.counted.Tie as tie
+
+abbrev Inv-loop : tie.InvT-loop
+Inv-loop journal n c₀ i₀ c i =
+    (i ≤ n) × (tallyOf c ≡ tallied (history journal i))
+
+abbrev μ-loop : tie.MeasureT-loop
+μ-loop journal n c₀ i₀ c i =
+    n - i
+
+loop-holds : tie.Need-loop-holds Inv-loop μ-loop
+loop-holds c =
+    (search needs, search counting-start)
+
+add-i : tie.Need-add-i Inv-loop μ-loop
+add-i c =
+    search needs
+
+kind-at-requires : tie.Need-kind-at-requires Inv-loop μ-loop
+kind-at-requires c κs =
+    search counting-long
+
+raise-requires : tie.Need-raise-requires Inv-loop μ-loop
+raise-requires c κs =
+    search counting-few
+
+loop-less : tie.Need-loop-less Inv-loop μ-loop
+loop-less c =
+    omega arith
+
+loop-again : tie.Need-loop-again Inv-loop μ-loop
+loop-again c =
+    (omega arith, search counting-step)
+
+returns : tie.Need-returns Inv-loop μ-loop
+returns c =
+    search counting-end
+
+pub counted-spec : {M : Type 1} → statement M
+counted-spec =
+    tie.close
+    (tie.spec
+    Inv-loop
+    μ-loop
+    loop-holds
+    add-i
+    kind-at-requires
+    raise-requires
+    loop-less
+    loop-again
+    returns)

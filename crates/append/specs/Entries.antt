@@ -1,0 +1,56 @@
+-- The stages of append: the orders that are left after check, the table as an abort restores it, and what the stages lean on.
+-- Assumes nothing.
+use mathlib.Core.Path.{_≡_}
+use mathlib.Core.Bool.{false, cond, _&&_}
+use mathlib.Core.List.{List, _++_}
+use Prim.Native.Nat.{ℕ, suc, _+_, _*_, _<_, _≤_}
+use lib.Dec.{eqb}
+use lib.ListN.{length, set}
+use Rattle.format.specs.declared.Record.{Record}
+use Rattle.model.specs.History.{Amount}
+use Rattle.journal.specs.Journal.{count, items, txIn, opOf, history, whole, amountAt}
+use Rattle.journal.specs.Refusals.{Tally, malformed, closed, crossed, blind, noRoom, wrongTally}
+use Rattle.journal.specs.Orders.{Order, try}
+use Rattle.validate.specs.Arrays.{Ready, Linked, endsOf, writesOf, basesOf, readsOf}
+use Rattle.append.specs.declared.Counts.{Counts}
+use Rattle.append.specs.Answers.{Few}
+
+-- the table with the before image of record r, if it is a write of transaction s
+unfoldable pub restoredBy : ℕ → Record → List Amount → List Amount
+restoredBy s r t = cond (eqb (r .kind) 2 && eqb s (txIn r)) (set t (r .item .0) (r .before)) t
+
+-- a write's before comes from the table
+abbrev pub FromTable : List Amount → Record → Type 0
+FromTable t r = r .kind ≡ 2 → r .before ≡ amountAt t (r .item .0)
+
+-- 4, 6, 7, 8 for the new record, then 14
+unfoldable pub newOrder : List ℕ → Record → Order
+newOrder b r =
+    try 4 (suc (count b)) (malformed (items b) r)
+    ++ (try 6 (suc (count b)) (closed (whole b) (opOf (suc (count b)) r))
+    ++ (try 7 (suc (count b)) (crossed (whole b) (opOf (suc (count b)) r))
+    ++ (try 8 (suc (count b)) (blind (whole b) (opOf (suc (count b)) r)) ++ try 14 0 (noRoom b))))
+
+-- append after check: 15, then the new record
+unfoldable pub entryOrder : List ℕ → Tally → Record → Order
+entryOrder b c r = try 15 0 (wrongTally b c) ++ newOrder b r
+
+-- ---- the working arrays after the first n records, first records aside
+
+pub record Arrays (b : List ℕ) (n : ℕ) (ends writes bases reads links : List ℕ) : Type 0 where
+  pub ended : ends ≡ endsOf (history b n)
+  pub written : writes ≡ writesOf (history b n)
+  pub based : bases ≡ basesOf (history b n)
+  pub sighted : reads ≡ readsOf (history b n)
+  pub linked : Linked b n links
+
+-- ---- a record that may follow
+
+pub record Admitted (b : List ℕ) (t : List Amount) (c : Counts) (n : ℕ) (r : Record) : Type 0 where
+  pub ready : Ready b n
+  pub counted : n ≡ count b
+  pub table : length t ≡ items b
+  pub formed : malformed (items b) r ≡ false
+  pub small : n < 3200
+  pub room : 20 * (n + 1) + 20 ≤ length b
+  pub few : Few c

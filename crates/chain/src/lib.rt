@@ -1,0 +1,138 @@
+// The chain of one transaction: its record numbers, found by following next from its first record.
+ghost use mathlib.Core.Path.{_≡_};
+ghost use mathlib.Core.List.{_++_};
+ghost use Prim.Native.Nat.{_≤_};
+ghost use lib.ListN.{length};
+ghost use Rattle.journal.specs.Journal.{count, whole};
+ghost use Rattle.journal.specs.Orders.{decide, openOrder};
+ghost use Rattle.journal.specs.Calls as calls;
+ghost use Rattle.validate.specs.Recent.{firstTag};
+ghost use Rattle.validate.specs.Arrays.{Opened, Ready};
+ghost use Rattle.chain.specs.Answers.{answerOf, begunOf, firstIn, firstOrder};
+use format::next_at;
+use journal::Reason;
+use validate::Headed;
+use validate::Verdict;
+use validate::header;
+use validate::records;
+
+// How many records were visited. specs/Answers.antt gives document 01's answer for each case.
+pub enum Walk {
+    Visited(u32),
+    Refused(Reason),
+}
+
+// The first record of a transaction.
+enum Begun {
+    At(u32),
+    Refused(Reason),
+}
+
+// The first record of transaction s; `firsts` has that of each transaction up to 1,024, 0 for none.
+fn first_of(firsts: &[u32], s: usize) -> Begun
+    ensures { λ r. ⌜ begunOf r ≡ firstIn (now (firsts .entry)) s ⌝ }
+{
+    if s < firsts.len() {
+        let first = firsts[s];
+        if first == 0 {
+            Begun::Refused(Reason::Unknown(0))
+        } else {
+            Begun::At(first)
+        }
+    } else {
+        Begun::Refused(Reason::Unknown(0))
+    }
+}
+
+// Rules 4 to 9, then 12, of a journal whose head is right.
+fn begin_opened(journal: &[u8], n: usize, keys: u32, s: usize) -> Begun
+    requires { ⌜ Opened (now journal) n keys ⌝ }
+    ensures { λ r. ⌜ begunOf r ≡ calls.answered (decide (firstOrder (now (journal .entry)) s)) (firstTag (whole (now (journal .entry))) s) ⌝ }
+{
+    let mut ends = [0u8; 1025];
+    let mut firsts = [0u32; 1025];
+    let mut writes = [0u32; 1024];
+    let mut bases = [0u32; 1024];
+    let mut reads = [0u32; 1024];
+    let mut links = [0u32; 3201];
+    let passed = records(
+        journal,
+        n,
+        keys,
+        &mut ends,
+        &mut firsts,
+        &mut writes,
+        &mut bases,
+        &mut reads,
+        &mut links,
+    );
+    let Verdict::Passed = passed else {
+        let Verdict::Refused(why) = passed else {
+            return Begun::At(0);
+        };
+        return Begun::Refused(why);
+    };
+    first_of(&firsts, s)
+}
+
+// The first record of transaction s, or the first refusal of 1, 2, 4 to 9 and 12.
+fn begin(journal: &[u8], s: usize) -> Begun
+    ensures { λ r. ⌜ begunOf r ≡ calls.answered (decide (openOrder (now (journal .entry)) ++ firstOrder (now (journal .entry)) s)) (firstTag (whole (now (journal .entry))) s) ⌝ }
+{
+    let head = header(journal);
+    let Headed::Counts(n, keys) = head else {
+        let Headed::Refused(why) = head else {
+            return Begun::At(0);
+        };
+        return Begun::Refused(why);
+    };
+    begin_opened(journal, n as usize, keys, s)
+}
+
+// How many records the chain from `first` has.
+fn visited(journal: &[u8], first: usize) -> usize
+    requires { ⌜ Ready (now journal) (count (now journal)) × (first ≤ count (now journal)) ⌝ }
+    ensures { λ r. ⌜ (r ≡ length (calls.walk (now (journal .entry)) (count (now (journal .entry))) first)) × (r ≤ 3200) ⌝ }
+{
+    let mut steps = 0;
+    let mut i = first;
+    while i != 0 {
+        i = next_at(journal, i) as usize;
+        steps += 1;
+    }
+    steps
+}
+
+// Writes the record numbers of the chain from `first` to the front of a list that has room for them.
+fn follow(journal: &[u8], first: usize, lsns: &mut [u32])
+    requires { ⌜ Ready (now journal) (count (now journal)) × (first ≤ count (now journal)) × (length (calls.walk (now journal) (count (now journal)) first) ≤ length (now lsns)) ⌝ }
+    ensures { λ _. ⌜ now (lsns .exit) ≡ calls.written (calls.walk (now (journal .entry)) (count (now (journal .entry))) first) (now (lsns .entry)) ⌝ }
+{
+    let mut k = 0;
+    let mut i = first;
+    while i != 0 {
+        lsns[k] = i as u32;
+        i = next_at(journal, i) as usize;
+        k += 1;
+    }
+}
+
+// Writes the record numbers of one transaction to the front of `lsns`, in order, and answers how many there are (document 01, slip).
+pub fn chain(journal: &[u8], transaction: u16, lsns: &mut [u32]) -> Walk
+    ensures answer { λ r. ⌜ answerOf r ≡ calls.chain (now (journal .entry)) transaction (now (lsns .entry)) .answer ⌝ }
+    ensures lsns { λ r. ⌜ now (lsns .exit) ≡ calls.chain (now (journal .entry)) transaction (now (lsns .entry)) .lsns ⌝ }
+{
+    let begun = begin(journal, transaction as usize);
+    let Begun::At(first) = begun else {
+        let Begun::Refused(why) = begun else {
+            return Walk::Visited(0);
+        };
+        return Walk::Refused(why);
+    };
+    let k = visited(journal, first as usize);
+    if lsns.len() < k {
+        return Walk::Refused(Reason::Capacity);
+    }
+    follow(journal, first as usize, lsns);
+    Walk::Visited(k as u32)
+}

@@ -1,0 +1,131 @@
+-- The copy: one record stored behind those before it, and the whole.
+-- Assumes nothing.
+use mathlib.Core.Path.{_≡_, refl, sym, _∙_, ap}
+use mathlib.Core.Bool.{Bool, true, false, cond}
+use mathlib.Core.List.{List, [], _∷_, _++_, append-nil}
+use Prim.Native.Nat.{ℕ, zero, suc, _+_, _-_, _*_, _≤_, _<_}
+use native.Mathlib.Omega.{arith}
+use native.Mathlib.Numerals.{add-one}
+use lib.Dec.{eqb}
+use lib.ListN.{length, getD, length-append}
+use mir.Syntax.{w32}
+use mir.Val.{toZ, ofZ, SFits}
+use mir.ValLaws.{toZ-ofZ}
+use borrow.Author.Tests.{eqb-true, eq-eqb, ne-eqb}
+use borrow.Rule.Slice.PartMut.{putMid}
+use Rattle.lists.specs.Tables.{store}
+use Rattle.lists.proofs.BoolLaws.{byCases}
+use Rattle.lists.proofs.TablesLaws.{part-stored, store-store, length-store}
+use Rattle.format.specs.declared.Record.{Record}
+use Rattle.format.specs.Layout.{recordAt, bytesOf}
+use Rattle.format.proofs.LayoutLaws.{length-bytesOf}
+use Rattle.journal.specs.Journal.{txIn, records}
+use Rattle.journal.specs.Copy.{headWith, linkedTo, encoded}
+use Rattle.journal.proofs.Records.{records-suc, records-zero}
+use Rattle.journal.proofs.Encoded.{length-encoded}
+use Rattle.trace.specs.Codes.{coded}
+use Rattle.repair.specs.Copying.{rank, Ranked, moved, movedAll, copyBytes, copyWith, copyStep}
+use Rattle.repair.proofs.RankLaws.{rank-zero, rank-suc, rank-kept, rank-le}
+
+-- ---- one record
+
+module _ (b fates ranks out : List ℕ) (i s v : ℕ) (r : Record) (e : r ≡ recordAt b i) (u : s ≡ txIn r) (p : v ≡ getD fates s 0) where
+  q : v ≡ getD fates (txIn r) 0
+  q = p ∙ rw u
+
+  pub copy-idle : (v ≡ 1 → ⊥) → out ≡ copyStep b fates ranks i out
+  unfolding copyStep coded
+  copy-idle h = rw (← e, ← q, ne-eqb v 1 h)
+
+  -- the part written, with its amounts read back from their bits
+  pub copy-moved : (next a : ℕ) (part : List ℕ) → v ≡ 1 → next ≡ getD ranks (r .next .0) 0 → a ≡ getD ranks i 0 → SFits w32 (r .before) → SFits w32 (r .after)
+      → part ≡ bytesOf (record { kind = r .kind; reserved = r .reserved; transaction = record { 0 = txIn r }; next = record { 0 = next }; item = record { 0 = r .item .0 }; before = toZ w32 (ofZ w32 (r .before)); after = toZ w32 (ofZ w32 (r .after)) })
+      → putMid (20 * a) (20 * a + 20 - 20 * a) out part ≡ copyStep b fates ranks i out
+  unfolding copyStep coded moved
+  copy-moved next a part h n c f g o =
+      let z : 20 * a + 20 - 20 * a ≡ 20 = omega arith in
+      let w : part ≡ bytesOf (linkedTo next r) = o ∙ rw (toZ-ofZ w32 (r .before) f, toZ-ofZ w32 (r .after) g) in
+      rw (← e, ← q, h, z, c, w, n) (part-stored (20 * getD ranks i 0) 20 (bytesOf (linkedTo (getD ranks (r .next .0) 0) r)) out (length-bytesOf (linkedTo (getD ranks (r .next .0) 0) r)))
+
+-- ---- the records so far
+
+module _ (b fates ranks : List ℕ) where
+  moved-suc : (i : ℕ) → movedAll (coded 1 fates) ranks (records b (suc i)) ≡ cond (coded 1 fates (txIn (recordAt b (suc i)))) (moved ranks (recordAt b (suc i)) ∷ movedAll (coded 1 fates) ranks (records b i)) (movedAll (coded 1 fates) ranks (records b i))
+  unfolding records movedAll
+  moved-suc i = refl
+
+  pub length-moved : (i : ℕ) → length (movedAll (coded 1 fates) ranks (records b i)) ≡ rank (coded 1 fates) b i
+  unfolding records movedAll rank
+  length-moved zero = refl
+  length-moved (suc i) = byCases (coded 1 fates (txIn (recordAt b (suc i)))) (λ e. rw e (ap suc (length-moved i))) (λ e. rw e (length-moved i))
+
+  pub length-bytes : (i : ℕ) → length (copyBytes b fates ranks i) ≡ 20 * rank (coded 1 fates) b i
+  unfolding copyBytes
+  length-bytes i = length-encoded (movedAll (coded 1 fates) ranks (records b i)) ∙ ap (λ k. 20 * k) (length-moved i)
+
+  bytes-zero : copyBytes b fates ranks 0 ≡ []
+  unfolding copyBytes records movedAll encoded
+  bytes-zero = refl
+
+  bytes-kept : (i : ℕ) → coded 1 fates (txIn (recordAt b (suc i))) ≡ true → copyBytes b fates ranks (suc i) ≡ copyBytes b fates ranks i ++ bytesOf (moved ranks (recordAt b (suc i)))
+  unfolding copyBytes encoded
+  bytes-kept i e = ap encoded (moved-suc i) ∙ rw e
+
+  bytes-other : (i : ℕ) → coded 1 fates (txIn (recordAt b (suc i))) ≡ false → copyBytes b fates ranks (suc i) ≡ copyBytes b fates ranks i
+  unfolding copyBytes
+  bytes-other i e = ap encoded (moved-suc i) ∙ rw e
+
+  pub copy-start : (out : List ℕ) → out ≡ store 20 (copyBytes b fates ranks 0) out
+  unfolding store
+  copy-start out = rw bytes-zero (whole 20 out)
+    where
+      whole : (k : ℕ) (l : List ℕ) → l ≡ lib.ListN.take k l ++ [] ++ lib.ListN.drop (k + 0) l
+      whole k l = let z : k + 0 ≡ k = omega arith in rw (z, append-nil) (sym (lib.ListN.take-append-drop k l))
+
+  module _ (n : ℕ) (r : Ranked b fates n ranks) (i : ℕ) (h : i < n) (old : List ℕ) (f : 20 * getD ranks n 0 + 20 ≤ length old) where
+    rank-here : getD ranks (suc i) 0 ≡ rank (coded 1 fates) b (suc i)
+    rank-here = r .at (suc i) h
+
+    within : rank (coded 1 fates) b i ≤ getD ranks n 0
+    within = rw (r .at n (omega arith)) (rank-le (coded 1 fates) b i n (omega arith))
+
+    fits : 20 + length (copyBytes b fates ranks i) ≤ length old
+    fits = omega (arith, length-bytes i, within)
+
+    -- there is room for the next
+    pub copy-room : (out : List ℕ) → out ≡ store 20 (copyBytes b fates ranks i) old → 20 * getD ranks (i + 1) 0 + 20 ≤ length out
+    copy-room out e =
+        let l : length out ≡ length old = ap length e ∙ length-store 20 (copyBytes b fates ranks i) old fits in
+        let z : getD ranks (i + 1) 0 ≡ rank (coded 1 fates) b (suc i) = ap (λ k. getD ranks k 0) (add-one i) ∙ rank-here in
+        omega (arith, r .at n (omega arith), rank-le (coded 1 fates) b (suc i) n h)
+
+    pub copy-length : (out : List ℕ) → out ≡ store 20 (copyBytes b fates ranks i) old → length out ≡ length old
+    copy-length out e = ap length e ∙ length-store 20 (copyBytes b fates ranks i) old fits
+
+    pub copy-more : (out new : List ℕ) → out ≡ store 20 (copyBytes b fates ranks i) old → new ≡ copyStep b fates ranks (i + 1) out → new ≡ store 20 (copyBytes b fates ranks (i + 1)) old
+    unfolding copyStep
+    copy-more out new e q =
+        q ∙ rw add-one
+        (byCases (coded 1 fates (txIn (recordAt b (suc i))))
+        (λ c. let p : 20 * getD ranks (suc i) 0 ≡ 20 + length (copyBytes b fates ranks i) = omega (arith, rank-here, rank-kept (coded 1 fates) b i c, length-bytes i) in
+        rw (c, bytes-kept i c, p, e) (store-store 20 (copyBytes b fates ranks i) old fits (bytesOf (moved ranks (recordAt b (suc i))))))
+        (λ c. rw (c, bytes-other i c) e))
+
+pub copied-done : (b fates ranks old out : List ℕ) (n i : ℕ) → i ≤ n → n ≤ i → out ≡ store 20 (copyBytes b fates ranks i) old → out ≡ store 20 (copyBytes b fates ranks n) old
+copied-done b fates ranks old out n i h l e = let z : n ≡ i = omega arith in rw z e
+
+-- ---- the head, and the records behind it
+
+pub head-room : (k : ℕ) (out part : List ℕ) → k + 20 ≤ length out → length part ≡ 20 → k + 20 ≤ length (putMid 0 20 out part)
+head-room k out part h e =
+    rw (part-stored 0 20 part out e) (omega (arith, length-store 0 part out (omega arith)))
+
+pub copied-all : (b fates ranks out part new : List ℕ) (n m k : ℕ) → 20 * getD ranks n 0 + 20 ≤ length out → k ≡ getD ranks n 0 → part ≡ bytesOf (headWith k m) → new ≡ store 20 (copyBytes b fates ranks n) (putMid 0 20 out part)
+    → new ≡ store 0 (copyWith b fates ranks n m) out
+unfolding copyWith
+copied-all b fates ranks out part new n m k h c p q =
+    let l : length (bytesOf (headWith (getD ranks n 0) m)) ≡ 20 = length-bytesOf (headWith (getD ranks n 0) m) in
+    let z : 20 ≡ 0 + length (bytesOf (headWith (getD ranks n 0) m)) = omega arith in
+    q ∙ rw (p, c, part-stored 0 20 (bytesOf (headWith (getD ranks n 0) m)) out l)
+    (ap (λ a. store a (copyBytes b fates ranks n) (store 0 (bytesOf (headWith (getD ranks n 0) m)) out)) z
+    ∙ store-store 0 (bytesOf (headWith (getD ranks n 0) m)) out (omega arith) (copyBytes b fates ranks n))

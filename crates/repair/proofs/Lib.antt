@@ -1,0 +1,4 @@
+pub mod RankLaws
+pub mod CopyLaws
+pub mod RestoreLaws
+pub mod Repaired

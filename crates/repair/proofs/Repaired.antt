@@ -1,0 +1,86 @@
+-- The copy, its size and the table left are document 01's, where the codes are the statuses.
+-- Assumes nothing.
+use mathlib.Core.Path.{_≡_, refl, sym, _∙_, ap}
+use mathlib.Core.Bool.{Bool, true, false, cond}
+use mathlib.Core.List.{List, [], _∷_, _++_}
+use Prim.Native.Nat.{ℕ, zero, suc, _+_, _*_, _≤_, _<_}
+use native.Mathlib.Omega.{arith}
+use lib.ListN.{length, getD}
+use Rattle.lists.specs.Tables.{tabulate}
+use Rattle.lists.proofs.BoolLaws.{byCases}
+use Rattle.format.specs.declared.Record.{Record}
+use Rattle.format.specs.Layout.{recordAt, bytesOf}
+use Rattle.model.specs.History.{History, Amount, laterOf, nextIn}
+use Rattle.model.specs.Undo.{surviving, only, renumber, repaired, replayed}
+use Rattle.model.proofs.Extension.{first-tag}
+use Rattle.journal.specs.Journal.{count, items, txIn, records, history, whole, amountAt}
+use Rattle.journal.specs.Copy.{headWith, linkedTo, encoded, copied, copyRecords, journalOf, copy}
+use Rattle.journal.specs.Calls.{openingAt, tableLeft, statuses}
+use Rattle.journal.proofs.Records.{length-history}
+use Rattle.journal.proofs.Encoded.{length-journalOf}
+use Rattle.journal.proofs.Unrefused.{chained-next, history-numbered}
+use Rattle.validate.specs.Arrays.{Ready}
+use Rattle.validate.proofs.Found.{passed-right}
+use Rattle.trace.specs.Codes.{coded}
+use Rattle.trace.proofs.UndoSet.{coded-surviving}
+use Rattle.repair.specs.Copying.{rank, Ranked, moved, movedAll, copyBytes, copyWith}
+use Rattle.repair.specs.Restoring.{leftAfter}
+use Rattle.repair.proofs.RankLaws.{rank-kept, next-rank}
+use Rattle.repair.proofs.CopyLaws.{length-moved}
+
+module _ (b : List ℕ) (n : ℕ) (k : Ready b n) (c : n ≡ count b) where
+  whole-is : whole b ≡ history b n
+  unfolding whole
+  whole-is = ap (history b) (sym c)
+
+  module _ (fates ranks : List ℕ) (r : Ranked b fates n ranks) where
+    -- the history of the copy
+    kept : History
+    kept = renumber (only (coded 1 fates) (history b n))
+
+    next-few : (i s : ℕ) → nextIn (history b n) i s ≤ n
+    next-few i s = let l = first-tag (laterOf i s) (history b n) (history-numbered b n) in omega (arith, length-history b n)
+
+    -- the rank of a kept record's next is its next in the copy
+    next-moved : (i : ℕ) → i < n → coded 1 fates (txIn (recordAt b (suc i))) ≡ true
+        → getD ranks (recordAt b (suc i) .next .0) 0 ≡ nextIn kept (rank (coded 1 fates) b (suc i)) (txIn (recordAt b (suc i)))
+    unfolding kept
+    next-moved i h e =
+        let s = txIn (recordAt b (suc i)) in
+        let z : recordAt b (suc i) .next .0 ≡ nextIn (history b n) (suc i) s =
+        chained-next b (suc i) (passed-right b n (k .passed) i h .chained) ∙ ap (λ p. nextIn p (suc i) s) whole-is in
+        ap (λ m. getD ranks m 0) z ∙ r .at (nextIn (history b n) (suc i) s) (next-few (suc i) s)
+        ∙ sym (next-rank (coded 1 fates) b (suc i) s e n)
+
+    moved-copied : (i : ℕ) → i ≤ n → movedAll (coded 1 fates) ranks (records b i) ≡ copied (coded 1 fates) kept (records b i)
+    unfolding records movedAll copied moved
+    moved-copied zero h = refl
+    moved-copied (suc i) h =
+        let ih = moved-copied i (omega arith) in
+        byCases (coded 1 fates (txIn (recordAt b (suc i))))
+        (λ e. let l : suc (length (copied (coded 1 fates) kept (records b i))) ≡ rank (coded 1 fates) b (suc i) =
+        ap suc (ap length (sym ih) ∙ length-moved b fates ranks i) ∙ sym (rank-kept (coded 1 fates) b i e) in
+        rw (e, l, ih, next-moved i h e))
+        (λ e. rw e ih)
+
+    module _ (bad : List ℕ) (f : fates ≡ statuses bad (history b n)) where
+      copy-records : movedAll (coded 1 fates) ranks (records b n) ≡ copyRecords bad b
+      unfolding copyRecords kept
+      copy-records =
+          moved-copied n (omega arith)
+          ∙ rw (← c, whole-is, coded-surviving b n k bad fates f)
+
+      rank-all : getD ranks n 0 ≡ length (copyRecords bad b)
+      rank-all = r .at n (omega arith) ∙ sym (length-moved b fates ranks n) ∙ ap length copy-records
+
+      pub copy-whole : (m : ℕ) → m ≡ items b → copyWith b fates ranks n m ≡ copy bad b
+      unfolding copyWith copyBytes copy journalOf
+      copy-whole m e = rw (e, rank-all, copy-records)
+
+      pub copy-size : length (copy bad b) ≡ 20 * (getD ranks n 0 + 1)
+      unfolding copy
+      copy-size = length-journalOf (items b) (copyRecords bad b) ∙ rw rank-all
+
+  pub table-left : (bad fates : List ℕ) (t : List Amount) → fates ≡ statuses bad (history b n) → leftAfter (coded 1 fates) (history b n) t ≡ tableLeft bad b t
+  unfolding leftAfter tableLeft openingAt
+  table-left bad fates t f = rw (coded-surviving b n k bad fates f, whole-is)

@@ -1,0 +1,26 @@
+-- `trace::feeder_at` meets its contract: a number behind the end is 0.
+-- Assumes nothing.
+use borrow.Author.Needs.{needs}
+use Rattle.trace.proofs.CodesLaws.{none-behind}
+use Rattle.trace.proofs.feeder_at.Statement.{statement}
+use Rattle.trace.proofs.feeder_at.Tie as tie
+
+mul-wide : tie.Need-mul-wide
+mul-wide c = search needs
+
+shared-slice-read-wide : tie.Need-shared-slice-read-wide
+shared-slice-read-wide c = search needs
+
+wide-requires : tie.Need-wide-requires
+wide-requires c κs = search needs
+
+returns : tie.Need-returns
+returns c = search needs
+
+returns-2 : tie.Need-returns-2
+returns-2 c =
+    search none-behind
+
+pub feeder-at-spec : {M : Type 1} → statement M
+feeder-at-spec =
+    tie.close (tie.spec mul-wide shared-slice-read-wide wide-requires returns returns-2)

@@ -1,0 +1,3 @@
+pub mod StagesLaws
+pub mod Examining
+pub mod ResultLaws
