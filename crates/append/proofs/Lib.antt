@@ -1,5 +1,5 @@
 pub mod Tables
-pub mod Tallies
+pub mod KindCounts
 pub mod Extending
 pub mod Judging
 pub mod Results

@@ -31,7 +31,7 @@ use Rattle.append.specs.declared.Plan.the-variants as plan
 use Rattle.append.specs.declared.Outcome.the-variants as outcome
 use Rattle.append.specs.Answers.{tallyOf, planOf, Appends}
 use Rattle.append.specs.Entries.{FromTable, Admitted}
-use Rattle.append.proofs.Tallies.{agreed-few}
+use Rattle.append.proofs.KindCounts.{agreed-few}
 use Rattle.append.proofs.Judging.{accepted-only, refused-only}
 
 -- ---- the new record

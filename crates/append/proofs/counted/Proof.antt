@@ -7,7 +7,7 @@ use borrow.Author.Needs.{needs}
 use Rattle.journal.specs.Journal.{history}
 use Rattle.journal.specs.Refusals.{tallied}
 use Rattle.append.specs.Answers.{tallyOf}
-use Rattle.append.proofs.Tallies.{counting-start, counting-few, counting-long, counting-step, counting-end}
+use Rattle.append.proofs.KindCounts.{counting-start, counting-few, counting-long, counting-step, counting-end}
 use Rattle.append.proofs.counted.Statement.{statement}
 use Rattle.append.proofs.counted.Tie as tie
 

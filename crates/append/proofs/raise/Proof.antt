@@ -1,6 +1,6 @@
 -- `append::raise` meets its contract, kind by kind.
 -- Assumes nothing.
-use Rattle.append.proofs.Tallies.{raise-read, raise-write, raise-commit, raise-abort, raise-other}
+use Rattle.append.proofs.KindCounts.{raise-read, raise-write, raise-commit, raise-abort, raise-other}
 use borrow.Author.Needs.{needs}
 use Rattle.append.proofs.raise.Statement.{statement}
 use Rattle.append.proofs.raise.Tie as tie

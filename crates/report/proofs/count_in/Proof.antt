@@ -1,0 +1,13 @@
+-- `report::count_in` meets its contract.
+-- Assumes nothing.
+use Rattle.journal.specs.Journal.{count}
+use borrow.Author.Needs.{needs}
+use Rattle.report.proofs.count_in.Statement.{statement}
+use Rattle.report.proofs.count_in.Tie as tie
+
+returns-2 : tie.Need-returns-2
+unfolding count
+returns-2 c = λ h. c .next-at .ensures
+
+pub count-in-spec : {M : Type 1} → statement M
+count-in-spec = tie.close (tie.spec (search needs) (search needs) (search needs) returns-2)

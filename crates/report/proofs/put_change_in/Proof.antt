@@ -1,0 +1,52 @@
+-- `report::put_change_in` meets its contract: amounts with the same bits have no line.
+-- Assumes nothing.
+use denote.Ref.{now}
+use borrow.Author.Needs.{needs}
+use mir.Syntax.{w32}
+use mir.Val.{SFits}
+use Rattle.format.proofs.BytesLaws.{amount-bits}
+use Rattle.journal.specs.Journal.{amountAt}
+use Rattle.text.proofs.PutsLaws.{put-none}
+use Rattle.report.proofs.OutputLaws.{changeIn-yes, changeIn-no}
+use Rattle.report.proofs.put_change_in.Statement.{statement}
+use Rattle.report.proofs.put_change_in.Tie as tie
+
+-- both amounts fit
+fits-old : (c : tie.After-after) → SFits w32 (amountAt (now (c .before .before .before .args .old)) (c .before .before .before .args .x))
+fits-old c = search needs
+
+fits-new : (c : tie.After-after) → SFits w32 (amountAt (now (c .before .before .before .args .new)) (c .before .before .before .args .x))
+fits-new c = search needs
+
+put-change-requires : tie.Need-put-change-requires
+put-change-requires c κs =
+    let a : tie.After-after = c .before .before in
+    let s = a .before .before .before in
+    rw (amount-bits (fits-old a), amount-bits (fits-new a)) (rw (changeIn-yes (now (s .args .old)) (now (s .args .new)) (s .args .x) (c .before .if1 .left)) at (s .pre .2))
+
+returns : tie.Need-returns
+returns c =
+    let a : tie.After-after = c .before in
+    let s = a .before .before .before in
+    rw (changeIn-no (now (s .args .old)) (now (s .args .new)) (s .args .x) (fits-old a) (fits-new a) (c .if1 .taken)) (put-none (s .args .at) (now (s .args .out)))
+
+returns-2 : tie.Need-returns-2
+returns-2 c =
+    let e : tie.Else1 = c .before .before .before .before in
+    let a : tie.After-after = e .before in
+    let s = a .before .before .before in
+    rw (changeIn-yes (now (s .args .old)) (now (s .args .new)) (s .args .x) (e .if1 .left))
+    (rw (amount-bits (fits-old a), amount-bits (fits-new a)) at (c .before .before .put-change .ensures))
+
+pub put-change-in-spec : {M : Type 1} → statement M
+put-change-in-spec =
+    tie.close
+    (tie.spec
+    (search needs)
+    (search needs)
+    (search needs)
+    (search needs)
+    put-change-requires
+    returns
+    (search needs)
+    returns-2)

@@ -1,0 +1,26 @@
+-- `report::put_undone_in` meets its contract: mark 2 has a line, any other has none.
+-- Assumes nothing.
+use denote.Ref.{now}
+use borrow.Author.Needs.{needs}
+use Rattle.text.proofs.PutsLaws.{put-none}
+use Rattle.report.proofs.OutputLaws.{undoneIn-yes, undoneIn-no}
+use Rattle.report.proofs.put_undone_in.Statement.{statement}
+use Rattle.report.proofs.put_undone_in.Tie as tie
+
+put-undone-requires : tie.Need-put-undone-requires
+put-undone-requires c κs =
+    let s = c .before .before .before .before .before in
+    rw (undoneIn-yes (now (s .args .status)) (s .args .s) (c .before .if1 .taken)) at (s .pre .1)
+
+returns : tie.Need-returns
+returns c =
+    let s = c .before .before .before .before .before .before .before .before in
+    rw (undoneIn-yes (now (s .args .status)) (s .args .s) (c .before .before .before .before .if1 .taken)) (c .before .before .put-undone .ensures)
+
+returns-2 : tie.Need-returns-2
+returns-2 c =
+    let s = c .before .before .before .before in
+    rw (undoneIn-no (now (s .args .status)) (s .args .s) (c .if1 .left)) (put-none (s .args .at) (now (s .args .out)))
+
+pub put-undone-in-spec : {M : Type 1} → statement M
+put-undone-in-spec = tie.close (tie.spec (search needs) put-undone-requires (search needs) returns returns-2)

@@ -1,0 +1,263 @@
+// The report of a take-back, written into a buffer.
+ghost use mathlib.Core.Path.{_≡_};
+ghost use Prim.Native.Nat.{_+_, _-_, _/_, _≤_, _<_};
+ghost use lib.ListN.{length};
+ghost use Rattle.lists.specs.Tables.{each, store};
+ghost use Rattle.journal.specs.Calls as calls;
+ghost use Rattle.journal.specs.Journal.{count};
+ghost use Rattle.journal.specs.Reasons.{numberOf, placeOf};
+ghost use Rattle.text.specs.Lines.{refusedLine};
+ghost use Rattle.report.specs.Output.{undoneIn, changeIn, countsOf, lines, linesOf, amounts, transactions, reportOf};
+ghost use Rattle.undo.specs.Answers.{answerOf};
+ghost use Rattle.text.specs.Puts.{Put};
+use journal::Reason;
+use undo::Undone;
+
+// The line of transaction s, if its status is 2 (document 01: mark 2, taken back).
+fn put_undone_in(out: &mut [u8], at: usize, status: &[u8], s: usize) -> usize
+    requires { ⌜ (s < length (now status)) × (at + length (undoneIn (now status) s) ≤ length (now out)) ⌝ }
+    ensures { λ r. ⌜ Put at (undoneIn (now (status .entry)) s) (now (out .entry)) (now (out .exit)) r ⌝ }
+{
+    let code = status[s];
+    if code == 2 {
+        text::put_undone(out, at, s as u64)
+    } else {
+        at
+    }
+}
+
+// The lines of all transactions with status 2.
+fn put_all_undone(out: &mut [u8], at: usize, status: &[u8]) -> usize
+    requires { ⌜ (length (now status) ≡ 1025) × (at + length (each (undoneIn (now status)) 1 1024) ≤ length (now out)) ⌝ }
+    ensures { λ r. ⌜ Put at (each (undoneIn (now (status .entry))) 1 1024) (now (out .entry)) (now (out .exit)) r ⌝ }
+{
+    let mut end = at;
+    let mut s = 1;
+    while s < 1025 {
+        end = put_undone_in(out, end, status, s);
+        s += 1;
+    }
+    end
+}
+
+// The line of item x, if its amount is another.
+fn put_change_in(out: &mut [u8], at: usize, old: &[i32], new: &[i32], x: usize) -> usize
+    requires { ⌜ (x < length (now old)) × (x < length (now new)) × (at + length (changeIn (now old) (now new) x) ≤ length (now out)) ⌝ }
+    ensures { λ r. ⌜ Put at (changeIn (now (old .entry)) (now (new .entry)) x) (now (out .entry)) (now (out .exit)) r ⌝ }
+{
+    let before = old[x];
+    let after = new[x];
+    if before == after {
+        at
+    } else {
+        text::put_change(out, at, x as u64, before, after)
+    }
+}
+
+// The lines of all items whose amount is another.
+fn put_changes(out: &mut [u8], at: usize, old: &[i32], new: &[i32]) -> usize
+    requires { ⌜ (length (now old) ≡ length (now new)) × (at + length (each (changeIn (now old) (now new)) 0 (length (now old))) ≤ length (now out)) ⌝ }
+    ensures { λ r. ⌜ Put at (each (changeIn (now (old .entry)) (now (new .entry))) 0 (length (now (old .entry)))) (now (out .entry)) (now (out .exit)) r ⌝ }
+{
+    let mut end = at;
+    let mut x = 0;
+    while x < old.len() {
+        end = put_change_in(out, end, old, new, x);
+        x += 1;
+    }
+    end
+}
+
+// The amounts of a table file, at the front of `table`, and their number.
+fn read_amounts(file: &[u8], table: &mut [i32]) -> usize
+    requires { ⌜ length (now file) / 4 ≤ length (now table) ⌝ }
+    ensures { λ r. ⌜ (r ≡ length (now (file .entry)) / 4) × (now (table .exit) ≡ store 0 (amounts (now (file .entry))) (now (table .entry))) ⌝ }
+{
+    let n = file.len() / 4;
+    let mut i = 0;
+    while i < n {
+        table[i] = format::amount_of(format::value4(file, 4 * i));
+        i += 1;
+    }
+    n
+}
+
+// The transactions of a bad-list file, at the front of `bad`, and their number.
+fn read_transactions(file: &[u8], bad: &mut [u16]) -> usize
+    requires { ⌜ length (now file) / 2 ≤ length (now bad) ⌝ }
+    ensures { λ r. ⌜ (r ≡ length (now (file .entry)) / 2) × (now (bad .exit) ≡ store 0 (transactions (now (file .entry))) (now (bad .entry))) ⌝ }
+{
+    let n = file.len() / 2;
+    let mut i = 0;
+    while i < n {
+        bad[i] = format::value2(file, 2 * i);
+        i += 1;
+    }
+    n
+}
+
+// The number and the place of a refusal.
+fn number_of(why: Reason) -> u64
+    ensures { λ r. ⌜ r ≡ numberOf why ⌝ }
+{
+    match why {
+        Reason::Truncated => 1,
+        Reason::Header => 2,
+        Reason::TableLength => 3,
+        Reason::Malformed(_) => 4,
+        Reason::Chain(_) => 5,
+        Reason::Closed(_) => 6,
+        Reason::Conflict(_) => 7,
+        Reason::Blind(_) => 8,
+        Reason::BeforeImage(_) => 9,
+        Reason::FinalState(_) => 10,
+        Reason::Active(_) => 11,
+        Reason::Unknown(_) => 12,
+        Reason::StatusLength => 13,
+        Reason::Capacity => 14,
+        Reason::Counts => 15,
+    }
+}
+
+fn place_of(why: Reason) -> u64
+    ensures { λ r. ⌜ r ≡ placeOf why ⌝ }
+{
+    match why {
+        Reason::Truncated => 0,
+        Reason::Header => 0,
+        Reason::TableLength => 0,
+        Reason::Malformed(i) => i.0 as u64,
+        Reason::Chain(i) => i.0 as u64,
+        Reason::Closed(i) => i.0 as u64,
+        Reason::Conflict(i) => i.0 as u64,
+        Reason::Blind(i) => i.0 as u64,
+        Reason::BeforeImage(i) => i.0 as u64,
+        Reason::FinalState(x) => x.0 as u64,
+        Reason::Active(s) => s.0 as u64,
+        Reason::Unknown(k) => k as u64,
+        Reason::StatusLength => 0,
+        Reason::Capacity => 0,
+        Reason::Counts => 0,
+    }
+}
+
+// The copy's records, by its bytes.
+fn copied_records(bytes: u64) -> u64
+    ensures { λ r. ⌜ r ≡ bytes / 20 - 1 ⌝ }
+{
+    if bytes < 20 { 0 } else { bytes / 20 - 1 }
+}
+
+// The lines of an accepted take-back.
+fn put_accepted(
+    out: &mut [u8],
+    n: u64,
+    status: &[u8],
+    old: &[i32],
+    new: &[i32],
+    surviving: u64,
+    undone: u64,
+    aborted: u64,
+    bytes: u64,
+) -> usize
+    requires { ⌜ (length (now status) ≡ 1025) × (length (now old) ≡ length (now new)) × (0 + length (lines n (now old) (now new) (now status) (calls.Answer.accepted (countsOf surviving undone aborted bytes))) ≤ length (now out)) ⌝ }
+    ensures { λ r. ⌜ Put 0 (lines n (now (old .entry)) (now (new .entry)) (now (status .entry)) (calls.Answer.accepted (countsOf surviving undone aborted bytes))) (now (out .entry)) (now (out .exit)) r ⌝ }
+{
+    let m = copied_records(bytes);
+    let a = text::put_counts(out, 0, n, m);
+    let b = put_all_undone(out, a, status);
+    let c = put_changes(out, b, old, new);
+    text::put_end(out, c, surviving, undone, aborted)
+}
+
+// The line of a refused take-back.
+fn put_reason(out: &mut [u8], why: Reason) -> usize
+    requires { ⌜ 0 + length (refusedLine (numberOf why) (placeOf why)) ≤ length (now out) ⌝ }
+    ensures { λ r. ⌜ Put 0 (refusedLine (numberOf why) (placeOf why)) (now (out .entry)) (now (out .exit)) r ⌝ }
+{
+    let number = number_of(why);
+    let place = place_of(why);
+    text::put_refused(out, 0, number, place)
+}
+
+// The record count in a journal's head; 0, if it has none.
+fn count_in(journal: &[u8]) -> u64
+    ensures { λ r. ⌜ (20 ≤ length (now (journal .entry)) → r ≡ count (now (journal .entry))) ⌝ }
+{
+    if journal.len() < 20 {
+        0
+    } else {
+        format::next_at(journal, 0) as u64
+    }
+}
+
+// The lines of take-back's answer.
+fn put_answer(
+    out: &mut [u8],
+    answer: Undone,
+    n: u64,
+    status: &[u8],
+    old: &[i32],
+    new: &[i32],
+) -> usize
+    requires { ⌜ (length (now status) ≡ 1025) × (length (now old) ≡ length (now new)) × (0 + length (lines n (now old) (now new) (now status) (answerOf answer)) ≤ length (now out)) ⌝ }
+    ensures { λ r. ⌜ Put 0 (lines n (now (old .entry)) (now (new .entry)) (now (status .entry)) (answerOf answer)) (now (out .entry)) (now (out .exit)) r ⌝ }
+{
+    match answer {
+        Undone::Done(c) => put_accepted(
+            out,
+            n,
+            status,
+            old,
+            new,
+            c.surviving as u64,
+            c.undone as u64,
+            c.aborted as u64,
+            c.bytes as u64,
+        ),
+        Undone::Refused(why) => put_reason(out, why),
+    }
+}
+
+// Take-back, and its report.
+fn report_on(
+    journal: &[u8],
+    old: &[i32],
+    new: &mut [i32],
+    bad: &[u16],
+    status: &mut [u8],
+    copy: &mut [u8],
+    out: &mut [u8],
+) -> usize
+    requires { ⌜ (now new ≡ now old) × (length (now status) ≡ 1025) × (100000 ≤ length (now out)) ⌝ }
+    ensures { λ r. ⌜ Put 0 (linesOf (now (journal .entry)) (now (old .entry)) (calls.undo (now (journal .entry)) (now (old .entry)) (now (bad .entry)) (now (status .entry)) (now (copy .entry)))) (now (out .entry)) (now (out .exit)) r ⌝ }
+{
+    let answer = undo::undo(journal, new, bad, status, copy);
+    let n = count_in(journal);
+    put_answer(out, answer, n, status, old, new)
+}
+
+// The report on a journal, a table file and a bad-list file at the front of `out`, and its length.
+pub fn report(journal: &[u8], table: &[u8], bad: &[u8], out: &mut [u8]) -> usize
+    requires { ⌜ (length (now table) ≤ 64020) × (length (now bad) ≤ 64020) × (100000 ≤ length (now out)) ⌝ }
+    ensures size { λ r. ⌜ r ≤ 100000 ⌝ }
+    ensures text { λ r. ⌜ Put 0 (reportOf (now (journal .entry)) (now (table .entry)) (now (bad .entry))) (now (out .entry)) (now (out .exit)) r ⌝ }
+{
+    let mut old = [0i32; 16005];
+    let items = read_amounts(table, &mut old);
+    let mut new = [0i32; 16005];
+    read_amounts(table, &mut new);
+    let mut listed = [0u16; 32010];
+    let count = read_transactions(bad, &mut listed);
+    let mut status = [0u8; 1025];
+    let mut copy = [0u8; 64020];
+    report_on(
+        journal,
+        &old[0..items],
+        &mut new[0..items],
+        &listed[0..count],
+        &mut status,
+        &mut copy,
+        out,
+    )
+}

@@ -1,0 +1,69 @@
+-- The lines of the report, to the byte: each ends in one newline.
+-- Document 01, "The program's day". Assumes nothing.
+use mathlib.Core.List.{List, [], _∷_, _++_}
+use Prim.Native.Nat.{ℕ}
+use lib.IntN.{ℤ}
+use Rattle.text.specs.Decimal.{decimal, decimalZ}
+
+-- ---- the words, with the spaces beside them
+
+-- "JOURNAL "
+abbrev pub journalWord : List ℕ
+journalWord = 74 ∷ 79 ∷ 85 ∷ 82 ∷ 78 ∷ 65 ∷ 76 ∷ 32 ∷ []
+
+-- " COPY "
+abbrev pub copyWord : List ℕ
+copyWord = 32 ∷ 67 ∷ 79 ∷ 80 ∷ 89 ∷ 32 ∷ []
+
+-- "BACK "
+abbrev pub backWord : List ℕ
+backWord = 66 ∷ 65 ∷ 67 ∷ 75 ∷ 32 ∷ []
+
+-- "ITEM "
+abbrev pub itemWord : List ℕ
+itemWord = 73 ∷ 84 ∷ 69 ∷ 77 ∷ 32 ∷ []
+
+-- "END "
+abbrev pub endWord : List ℕ
+endWord = 69 ∷ 78 ∷ 68 ∷ 32 ∷ []
+
+-- "REFUSED "
+abbrev pub refusedWord : List ℕ
+refusedWord = 82 ∷ 69 ∷ 70 ∷ 85 ∷ 83 ∷ 69 ∷ 68 ∷ 32 ∷ []
+
+-- " "
+abbrev pub space : List ℕ
+space = 32 ∷ []
+
+-- "\n"
+abbrev pub newline : List ℕ
+newline = 10 ∷ []
+
+-- ---- the lines
+
+-- a word with a number behind it
+abbrev pub labelled : List ℕ → ℕ → List ℕ
+labelled word n = word ++ decimal n
+
+abbrev pub labelledZ : List ℕ → ℤ → List ℕ
+labelledZ word z = word ++ decimalZ z
+
+-- JOURNAL n COPY m: the record counts
+unfoldable pub countLine : ℕ → ℕ → List ℕ
+countLine n m = labelled journalWord n ++ labelled copyWord m ++ newline
+
+-- BACK s: a transaction (01: sale) taken back
+unfoldable pub undoneLine : ℕ → List ℕ
+undoneLine s = labelled backWord s ++ newline
+
+-- ITEM x old new: an item and its amounts
+unfoldable pub changeLine : ℕ → ℤ → ℤ → List ℕ
+changeLine x old new = labelled itemWord x ++ labelledZ space old ++ labelledZ space new ++ newline
+
+-- END s u a: transactions surviving (01: kept), undone (taken back), aborted (dropped)
+unfoldable pub endLine : ℕ → ℕ → ℕ → List ℕ
+endLine surviving undone aborted = labelled endWord surviving ++ labelled space undone ++ labelled space aborted ++ newline
+
+-- REFUSED number place
+unfoldable pub refusedLine : ℕ → ℕ → List ℕ
+refusedLine number place = labelled refusedWord number ++ labelled space place ++ newline
