@@ -441,3 +441,23 @@ pub fn append(
     *counts = appended.counts;
     appended.answer
 }
+
+// The same with the counts by value, for a caller that holds them in another form.
+pub fn append_counted(
+    counts: Counts,
+    journal: &mut [u8],
+    table: &mut [i32],
+    kind: u8,
+    transaction: u16,
+    item: u32,
+    after: i32,
+) -> Appended
+    ensures { λ r. ⌜ Appends counts (now (journal .entry)) (now (table .entry)) kind transaction item after (r .answer) (r .counts) (now (journal .exit)) (now (table .exit)) ⌝ }
+{
+    let mut lent = counts;
+    let answer = append(&mut lent, journal, table, kind, transaction, item, after);
+    Appended {
+        answer,
+        counts: lent,
+    }
+}

@@ -93,7 +93,7 @@ pub extern "C" fn journal_append(
         commits: counts[2],
         aborts: counts[3],
     };
-    let appended = append::append_with(given, journal, table, kind, transaction, item, after);
+    let appended = append::append_counted(given, journal, table, kind, transaction, item, after);
     let outcome = appended.answer;
     let Outcome::Refused(why) = outcome else {
         let now = appended.counts;

@@ -20,8 +20,8 @@ element-copy-out-t22 c = search needs
 element-copy-out-t25 : tie.Need-element-copy-out-t25
 element-copy-out-t25 c = search needs
 
-append-with-requires : tie.Need-append-with-requires
-append-with-requires c κs = search needs
+append-counted-requires : tie.Need-append-counted-requires
+append-counted-requires c κs = search needs
 
 enum-known-outcome : tie.Need-enum-known-outcome
 enum-known-outcome c = search needs
@@ -38,8 +38,8 @@ same-length-2 c = search needs
 returns : tie.Need-returns
 returns c =
     let start = c .before .before .before .before .before .before .before .before .before .before .before .before .before .before .before in
-    append-accepted {c′ = c .before .before .before .before .before .before .before .append-with .result .counts} (now (start .args .counts))
-    (rw (toZ-ofZ w32 (start .args .after) (start .fits .after)) at (c .before .before .before .before .before .before .before .append-with .ensures))
+    append-accepted {c′ = c .before .before .before .before .before .before .before .append-counted .result .counts} (now (start .args .counts))
+    (rw (toZ-ofZ w32 (start .args .after) (start .fits .after)) at (c .before .before .before .before .before .before .before .append-counted .ensures))
     (c .before .before .enum-told .given .1)
 
 place-requires : tie.Need-place-requires
@@ -58,7 +58,7 @@ returns-2 : tie.Need-returns-2
 returns-2 c =
     let start = c .before .before .before .before .before .before .before .before .before .before .before .before .before .before .before .before in
     append-refused (now (start .args .counts))
-    (rw (toZ-ofZ w32 (start .args .after) (start .fits .after)) at (c .before .before .before .before .before .before .before .before .append-with .ensures))
+    (rw (toZ-ofZ w32 (start .args .after) (start .fits .after)) at (c .before .before .before .before .before .before .before .before .append-counted .ensures))
     _ _ (c .before .before .before .outcome .given .1) (c .number .ensures) (c .before .place .ensures)
 
 pub journal-append-spec : {M : Type 1} → statement M
@@ -69,7 +69,7 @@ journal-append-spec =
     element-copy-out-t19
     element-copy-out-t22
     element-copy-out-t25
-    append-with-requires
+    append-counted-requires
     enum-known-outcome
     enum-told
     same-length
