@@ -1,3 +1,4 @@
 pub mod OutputLaws
+pub mod PrintedLaws
 pub mod TakenLaws
 pub mod Worked

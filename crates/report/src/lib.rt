@@ -1,17 +1,24 @@
 // The report of a take-back, written into a buffer.
 ghost use mathlib.Core.Path.{_≡_};
 ghost use Prim.Native.Nat.{_+_, _-_, _/_, _≤_, _<_};
-ghost use lib.ListN.{length};
+ghost use lib.ListN.{length, take};
 ghost use Rattle.lists.specs.Tables.{each, store};
 ghost use Rattle.journal.specs.Calls as calls;
 ghost use Rattle.journal.specs.Journal.{count};
 ghost use Rattle.journal.specs.Reasons.{numberOf, placeOf};
 ghost use Rattle.text.specs.Lines.{refusedLine};
 ghost use Rattle.report.specs.Output.{undoneIn, changeIn, countsOf, lines, linesOf, amounts, transactions, reportOf};
+ghost use Rattle.report.specs.Printed.{readOf, Prints, Within};
 ghost use Rattle.undo.specs.Answers.{answerOf};
 ghost use Rattle.text.specs.Puts.{Put};
 use journal::Reason;
 use undo::Undone;
+
+// What printing answers: the report's length; or the buffer is too short for some report.
+pub enum Printed {
+    Bytes(usize),
+    NoRoom,
+}
 
 // The line of transaction s, if its status is 2 (document 01: mark 2, taken back).
 fn put_undone_in(out: &mut [u8], at: usize, status: &[u8], s: usize) -> usize
@@ -238,7 +245,7 @@ fn report_on(
 }
 
 // The report on a journal, a table file and a bad-list file at the front of `out`, and its length.
-pub fn report(journal: &[u8], table: &[u8], bad: &[u8], out: &mut [u8]) -> usize
+fn report(journal: &[u8], table: &[u8], bad: &[u8], out: &mut [u8]) -> usize
     requires { ⌜ (length (now table) ≤ 64020) × (length (now bad) ≤ 64020) × (100000 ≤ length (now out)) ⌝ }
     ensures size { λ r. ⌜ r ≤ 100000 ⌝ }
     ensures text { λ r. ⌜ Put 0 (reportOf (now (journal .entry)) (now (table .entry)) (now (bad .entry))) (now (out .entry)) (now (out .exit)) r ⌝ }
@@ -260,4 +267,31 @@ pub fn report(journal: &[u8], table: &[u8], bad: &[u8], out: &mut [u8]) -> usize
         &mut copy,
         out,
     )
+}
+
+// How many bytes of a file are read: the first 64,020.
+fn read_of(file: &[u8]) -> usize
+    ensures { λ r. ⌜ (r ≤ length (now (file .entry))) × (r ≤ 64020) × (take r (now (file .entry)) ≡ readOf (now (file .entry))) ⌝ }
+{
+    if file.len() < 64020 {
+        file.len()
+    } else {
+        64020
+    }
+}
+
+// The report on the three files, of which the first 64,020 bytes are read, at the front of `out`. A buffer of under 100,000 bytes
+// has no room, and nothing is written.
+pub fn report_files(journal: &[u8], table: &[u8], bad: &[u8], out: &mut [u8]) -> Printed
+    ensures within { λ r. ⌜ Within (now (out .exit)) r ⌝ }
+    ensures text { λ r. ⌜ Prints (now (journal .entry)) (now (table .entry)) (now (bad .entry)) (now (out .entry)) (now (out .exit)) r ⌝ }
+{
+    if out.len() < 100000 {
+        return Printed::NoRoom;
+    }
+    let j = read_of(journal);
+    let t = read_of(table);
+    let b = read_of(bad);
+    let n = report(&journal[0..j], &table[0..t], &bad[0..b], out);
+    Printed::Bytes(n)
 }

@@ -6,7 +6,7 @@ ghost use Rattle.text.specs.Lines.{labelled, labelledZ, countLine, undon
 ghost use Rattle.text.specs.Puts.{Put};
 
 // Writes a word from `at` on, and answers where it ends.
-fn put_word(out: &mut [u8], at: usize, word: &[u8]) -> usize
+pub fn put_word(out: &mut [u8], at: usize, word: &[u8]) -> usize
     requires { ⌜ at + length (now word) ≤ length (now out) ⌝ }
     ensures { λ r. ⌜ Put at (now (word .entry)) (now (out .entry)) (now (out .exit)) r ⌝ }
 {

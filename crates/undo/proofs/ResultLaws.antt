@@ -1,12 +1,10 @@
 -- What take-back returns and leaves in each loan, by what refuses it, or by nothing.
 -- Assumes nothing.
-use mathlib.Core.Path.{_≡_, refl, sym, _∙_, ap}
-use mathlib.Core.Bool.{Bool, true, false, cond, not}
-use mathlib.Core.List.{List, [], _∷_, _++_}
-use mathlib.Core.Option.{Option, none, some}
-use Prim.Native.Nat.{ℕ, zero, suc, _+_, _*_, _≤_, _<_}
+use mathlib.Core.Path.{_≡_, sym, _∙_, ap}
+use mathlib.Core.List.{List, _++_}
+use mathlib.Core.Option.{none, some}
+use Prim.Native.Nat.{ℕ, _+_, _*_, _≤_, _<_}
 use native.Mathlib.Omega.{arith}
-use lib.Dec.{eqb, ltb}
 use lib.ListN.{length, getD}
 use borrow.Author.Tests.{eqb-true, lt-ltb, le-ltb}
 use Rattle.lists.specs.Search.{orElse}
@@ -17,20 +15,19 @@ use Rattle.model.specs.History.{Amount, aborted}
 use Rattle.model.specs.Undo.{surviving, undone}
 use Rattle.journal.specs.declared.Reason.{Reason}
 use Rattle.journal.specs.Reasons.{numberOf, placeOf}
-use Rattle.journal.specs.Journal.{count, items, history, whole}
+use Rattle.journal.specs.Journal.{history, whole}
 use Rattle.journal.specs.Refusals.{unknown, wrongStatus, tooShort}
-use Rattle.journal.specs.Orders.{Refusal, Order, try, decide, checkOrder, undoOrder}
+use Rattle.journal.specs.Orders.{Refusal, try, decide, checkOrder, undoOrder}
 use Rattle.journal.specs.Copy.{copy}
 use Rattle.journal.specs.Calls as calls
-use Rattle.journal.specs.Calls.{Answer, refused, accepted, answered, statuses, tableLeft}
-use Rattle.journal.proofs.OrdersLaws.{decide-yes, decide-no, decide-append, decide-append-none, decide-append-some}
+use Rattle.journal.specs.Calls.{Answer, refused, accepted, answered, statuses}
+use Rattle.journal.proofs.OrdersLaws.{decide-yes, decide-no, decide-append}
 use Rattle.journal.proofs.Clear.{decide-clear, clear-left, try-clear}
 use Rattle.validate.specs.declared.Headed.{Headed}
 use Rattle.validate.specs.declared.Headed.the-variants as headed
 use Rattle.validate.specs.declared.Verdict.{Verdict}
 use Rattle.validate.specs.declared.Verdict.the-variants as verdict
-use Rattle.validate.specs.Answers.{Size, headerOf, verdictOf, refusalOf, sizeOf}
-use Rattle.validate.specs.Arrays.{endsOf}
+use Rattle.validate.specs.Answers.{sizeOf, headerOf, verdictOf, refusalOf}
 use Rattle.trace.specs.Codes.{coded}
 use Rattle.trace.proofs.Ends.{coded-committed, coded-aborted}
 use Rattle.trace.proofs.UndoSet.{coded-surviving, coded-undone}

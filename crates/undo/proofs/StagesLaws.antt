@@ -1,10 +1,10 @@
 -- Refusals 11 and 12: a loop over an order, lowest first, and what one step of it decides.
 -- Assumes nothing.
-use mathlib.Core.Path.{_≡_, refl, sym, _∙_, ap}
-use mathlib.Core.Bool.{Bool, true, false, cond, not, _&&_}
-use mathlib.Core.List.{List, [], _∷_, _++_}
+use mathlib.Core.Path.{_≡_, sym, _∙_, ap}
+use mathlib.Core.Bool.{Bool, true, false, not}
+use mathlib.Core.List.{List, _++_}
 use mathlib.Core.Option.{Option, none, some}
-use Prim.Native.Nat.{ℕ, zero, suc, _+_, _-_, _≤_, _<_}
+use Prim.Native.Nat.{ℕ, suc, _+_, _-_, _≤_, _<_}
 use native.Mathlib.Omega.{arith}
 use native.Mathlib.Numerals.{add-one}
 use lib.Dec.{eqb}
@@ -12,7 +12,7 @@ use lib.ListN.{length, getD}
 use borrow.Author.Tests.{eq-eqb, ne-eqb}
 use Rattle.lists.specs.Tables.{each}
 use Rattle.lists.proofs.TablesLaws.{each-zero, each-suc}
-use Rattle.journal.specs.Orders.{Refusal, Order, try, decide}
+use Rattle.journal.specs.Orders.{Refusal, Order, decide}
 use Rattle.journal.proofs.OrdersLaws.{decide-yes, decide-no, decide-append-none, decide-append-some}
 use Rattle.trace.specs.Codes.{coded}
 use Rattle.validate.specs.Answers.{activeIn}

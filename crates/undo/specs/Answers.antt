@@ -1,6 +1,5 @@
 -- Document 01's answer for what take-back returns.
 -- Assumes nothing.
-use Prim.Native.Nat.{ℕ}
 use Rattle.journal.specs.Reasons.{numberOf, placeOf}
 use Rattle.journal.specs.Calls as calls
 use Rattle.journal.specs.Calls.{Answer, refused, accepted}

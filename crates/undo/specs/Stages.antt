@@ -13,7 +13,7 @@ use Rattle.journal.specs.Refusals.{stillActive, wrongStatus}
 use Rattle.journal.specs.Orders.{Order, try, decide, checkOrder}
 use Rattle.validate.specs.declared.Headed.{Headed}
 use Rattle.validate.specs.declared.Headed.the-variants as headed
-use Rattle.validate.specs.Answers.{activeIn, laterOrder}
+use Rattle.validate.specs.Answers.{activeIn}
 use Rattle.validate.specs.Arrays.{Ready, endsOf}
 use Rattle.trace.specs.Codes.{coded}
 
@@ -31,10 +31,6 @@ knownOrder ends bad k = try 12 k (unknownIn ends bad k)
 -- 13, then 12
 unfoldable pub admitOrder : List ℕ → List ℕ → List ℕ → Order
 admitOrder ends bad status = try 13 0 (wrongStatus status) ++ each (knownOrder ends bad) 0 (length bad)
-
--- 4 to 11, of a journal whose head and table length are right
-unfoldable pub openedOrder : List ℕ → List Amount → Order
-openedOrder b t = laterOrder b t ++ each (λ s. try 11 s (stillActive b s)) 1 1024
 
 -- check's refusals, then 11
 unfoldable pub examinedOrder : List ℕ → List Amount → Order

@@ -4,13 +4,13 @@ ghost use mathlib.Core.Option.{none};
 ghost use Prim.Native.Nat.{_+_, _*_, _≤_};
 ghost use lib.ListN.{length};
 ghost use Rattle.lists.specs.Tables.{each, number};
-ghost use Rattle.journal.specs.Journal.{count, items, history};
+ghost use Rattle.journal.specs.Journal.{history};
 ghost use Rattle.journal.specs.Orders.{decide};
 ghost use Rattle.journal.specs.Calls as calls;
-ghost use Rattle.validate.specs.Answers.{Size, headerOf, verdictOf, activeIn};
-ghost use Rattle.validate.specs.Arrays.{Opened, Ready, endsOf};
+ghost use Rattle.validate.specs.Answers.{sizeOf, headerOf, verdictOf, activeIn};
+ghost use Rattle.validate.specs.Arrays.{endsOf};
 ghost use Rattle.trace.specs.Codes.{coded};
-ghost use Rattle.undo.specs.Stages.{activeOrder, knownOrder, admitOrder, openedOrder, examinedOrder, Examined, Left};
+ghost use Rattle.undo.specs.Stages.{activeOrder, knownOrder, admitOrder, examinedOrder, Examined, Left};
 ghost use Rattle.undo.specs.Answers.{answerOf};
 use format::TransactionId;
 use journal::Reason;
@@ -84,21 +84,19 @@ fn admit(ends: &[u8], bad: &[u16], status: &[u8]) -> Verdict
     known(ends, bad)
 }
 
-// Refusals 4 to 11 of a journal whose head and table length are right. Where nothing is refused, `ends`, lent as zeros, has the end of
-// each transaction.
-fn examine_opened(journal: &[u8], n: usize, keys: u32, table: &[i32], ends: &mut [u8]) -> Verdict
-    requires { ⌜ Opened (now journal) n keys × (length (now table) ≡ keys) × (now ends ≡ endsOf (history (now journal) 0)) ⌝ }
-    ensures { λ v. ⌜ (verdictOf v ≡ decide (openedOrder (now (journal .entry)) (now (table .entry)))) × (verdictOf v ≡ none → Ready (now (journal .entry)) n × (now (ends .exit) ≡ endsOf (history (now (journal .entry)) n))) ⌝ }
+// Refusals 1 to 11, or the record count and the item count, with the end of each transaction in `ends`, which is lent as zeros.
+fn examine(journal: &[u8], table: &[i32], ends: &mut [u8]) -> Headed
+    requires { ⌜ now ends ≡ endsOf (history (now journal) 0) ⌝ }
+    ensures { λ r. ⌜ (headerOf r ≡ calls.answered (decide (examinedOrder (now (journal .entry)) (now (table .entry)))) (sizeOf (now (journal .entry)))) × Left r (now (journal .entry)) (now (table .entry)) (now (ends .exit)) ⌝ }
 {
     let mut firsts = [0u32; 1025];
     let mut writes = [0u32; 1024];
     let mut bases = [0u32; 1024];
     let mut reads = [0u32; 1024];
     let mut links = [0u32; 3201];
-    let passed = validate::records(
+    let head = validate::verify(
         journal,
-        n,
-        keys,
+        table,
         ends,
         &mut firsts,
         &mut writes,
@@ -106,30 +104,11 @@ fn examine_opened(journal: &[u8], n: usize, keys: u32, table: &[i32], ends: &mut
         &mut reads,
         &mut links,
     );
-    let Verdict::Passed = passed else {
-        return passed;
-    };
-    let settled = validate::final_state(journal, n, table, ends, &writes, &bases);
-    let Verdict::Passed = settled else {
-        return settled;
-    };
-    finished(ends, &firsts)
-}
-
-// Refusals 1 to 11, or the record count and the item count, with the end of each transaction in `ends`, which is lent as zeros.
-fn examine(journal: &[u8], table: &[i32], ends: &mut [u8]) -> Headed
-    requires { ⌜ now ends ≡ endsOf (history (now journal) 0) ⌝ }
-    ensures { λ r. ⌜ (headerOf r ≡ calls.answered (decide (examinedOrder (now (journal .entry)) (now (table .entry)))) (record { records = count (now (journal .entry)); items = items (now (journal .entry)) })) × Left r (now (journal .entry)) (now (table .entry)) (now (ends .exit)) ⌝ }
-{
-    let head = validate::header(journal);
     let Headed::Counts(n, keys) = head else {
         return head;
     };
-    if table.len() != keys as usize {
-        return Headed::Refused(Reason::TableLength);
-    }
-    let opened = examine_opened(journal, n as usize, keys, table, ends);
-    let Verdict::Refused(why) = opened else {
+    let ended = finished(ends, &firsts);
+    let Verdict::Refused(why) = ended else {
         return head;
     };
     Headed::Refused(why)

@@ -1,13 +1,29 @@
--- `undo::examine` meets its contract: the head, the table length and the later stages decide in this order.
+-- `undo::examine` meets its contract: check's refusals decide, then 11.
 -- Assumes nothing.
+use denote.Ref.{now}
 use borrow.Author.Needs.{needs}
-use Rattle.undo.proofs.Examining.{examined-head, examined-table, examined-passed, examined-left, examined-refused, left-refused}
-use Rattle.validate.proofs.Whole.{header-opened}
+use Rattle.undo.proofs.Examining.{state-zero, examined-head, examined-passed, examined-left, examined-refused, left-refused}
 use Rattle.undo.proofs.examine.Statement.{statement}
 use Rattle.undo.proofs.examine.Tie as tie
 
-header-requires : tie.Need-header-requires
-header-requires c κs = search needs
+slice-aggregate-verify : tie.Need-slice-aggregate-verify
+slice-aggregate-verify c = search needs
+
+slice-aggregate-verify-2 : tie.Need-slice-aggregate-verify-2
+slice-aggregate-verify-2 c = search needs
+
+slice-aggregate-verify-3 : tie.Need-slice-aggregate-verify-3
+slice-aggregate-verify-3 c = search needs
+
+slice-aggregate-verify-4 : tie.Need-slice-aggregate-verify-4
+slice-aggregate-verify-4 c = search needs
+
+slice-aggregate-verify-5 : tie.Need-slice-aggregate-verify-5
+slice-aggregate-verify-5 c = search needs
+
+verify-requires : tie.Need-verify-requires
+verify-requires c κs =
+    search state-zero
 
 enum-known-head : tie.Need-enum-known-head
 enum-known-head c = search needs
@@ -15,59 +31,64 @@ enum-known-head c = search needs
 enum-told : tie.Need-enum-told
 enum-told c = search needs
 
+same-length : tie.Need-same-length
+same-length c = search needs
+
 returns : tie.Need-returns
 returns c =
     (search examined-head, search left-refused)
 
-cast-if1 : tie.Need-cast-if1
-cast-if1 c = search needs
+slice-aggregate-finished : tie.Need-slice-aggregate-finished
+slice-aggregate-finished c = search needs
 
-returns-2 : tie.Need-returns-2
-returns-2 c =
-    (search examined-table, tt)
+finished-requires : tie.Need-finished-requires
+finished-requires c κs = search needs
 
-cast-examine-opened : tie.Need-cast-examine-opened
-cast-examine-opened c = search needs
-
-examine-opened-requires : tie.Need-examine-opened-requires
-examine-opened-requires c κs =
-    (search header-opened, search, search)
-
-enum-known-opened : tie.Need-enum-known-opened
-enum-known-opened c = search needs
+enum-known-ended : tie.Need-enum-known-ended
+enum-known-ended c = search needs
 
 enum-told-2 : tie.Need-enum-told-2
 enum-told-2 c = search needs
 
-same-length : tie.Need-same-length
-same-length c = search needs
-
-returns-3 : tie.Need-returns-3
-returns-3 c =
-    (search examined-passed, search examined-left)
-
 same-length-2 : tie.Need-same-length-2
 same-length-2 c = search needs
 
-returns-4 : tie.Need-returns-4
-returns-4 c =
-    (search examined-refused, tt)
+returns-2 : tie.Need-returns-2
+returns-2 c =
+    let d = c .before .before in
+    let w = d .before .before .before .before .before .before .before .before .before .before .before .before .before .verify in
+    let s = d .before .before .before .before .before .before .before .before .before .before .before .before .before .before .before .before .before .before .before .before .before .before in
+    (examined-passed (now (s .args .journal)) (now (s .args .table)) (w .result) (w .ensures .0) _ _ (d .before .before .before .before .head .given .1) _ _ _ _ _ _ (w .ensures .1) (d .finished .result) (d .finished .ensures) (c .enum-told2 .given .1), examined-left (now (s .args .journal)) (now (s .args .table)) (w .result) (w .ensures .0) _ _ (d .before .before .before .before .head .given .1) _ _ _ _ _ _ (w .ensures .1) (d .finished .result) (d .finished .ensures) (c .enum-told2 .given .1))
+
+same-length-3 : tie.Need-same-length-3
+same-length-3 c = search needs
+
+returns-3 : tie.Need-returns-3
+returns-3 c =
+    let d = c .before .before .before in
+    let w = d .before .before .before .before .before .before .before .before .before .before .before .before .before .verify in
+    let s = d .before .before .before .before .before .before .before .before .before .before .before .before .before .before .before .before .before .before .before .before .before .before in
+    (examined-refused (now (s .args .journal)) (now (s .args .table)) (w .result) (w .ensures .0) _ _ (d .before .before .before .before .head .given .1) _ _ _ _ _ _ (w .ensures .1) (d .finished .result) (d .finished .ensures) _ (c .before .ended .given .1), tt)
 
 pub examine-spec : {M : Type 1} → statement M
 examine-spec =
     tie.close
     (tie.spec
-    header-requires
+    slice-aggregate-verify
+    slice-aggregate-verify-2
+    slice-aggregate-verify-3
+    slice-aggregate-verify-4
+    slice-aggregate-verify-5
+    verify-requires
     enum-known-head
     enum-told
-    returns
-    cast-if1
-    returns-2
-    cast-examine-opened
-    examine-opened-requires
-    enum-known-opened
-    enum-told-2
     same-length
-    returns-3
+    returns
+    slice-aggregate-finished
+    finished-requires
+    enum-known-ended
+    enum-told-2
     same-length-2
-    returns-4)
+    returns-2
+    same-length-3
+    returns-3)

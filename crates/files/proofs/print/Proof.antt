@@ -1,0 +1,35 @@
+-- `files::print` meets its contract: the report lies within the buffer.
+-- Assumes nothing.
+use mathlib.Core.Path.{_≡_}
+use mathlib.Core.List.{List}
+use Prim.Native.Nat.{ℕ, _≤_}
+use lib.ListN.{length}
+use borrow.Author.Needs.{needs}
+use Rattle.report.specs.declared.Printed.{Printed}
+use Rattle.report.specs.declared.Printed.the-variants.{Bytes}
+use Rattle.report.specs.Printed.{Within}
+use Rattle.files.proofs.print.Statement.{statement}
+use Rattle.files.proofs.print.Tie as tie
+
+fits : (out : List ℕ) {r : Printed} {n : ℕ} → r ≡ Bytes n → Within out r → n ≤ length out
+fits out e w = rw e at w
+
+part-write-all-end : tie.Need-part-write-all-end
+part-write-all-end c =
+    let r : tie.After-report-files = c .before .before .before .before .before in
+    fits (r .report-files .last .1 .1 .1 .0) (c .before .before .printed .given .1) (r .report-files .ensures .0)
+
+pub print-spec : {M : Type 1} → statement M
+print-spec =
+    tie.close
+    (tie.spec
+    (search needs)
+    (λ c κs. search needs)
+    (search needs)
+    (search needs)
+    (search needs)
+    (search needs)
+    (search needs)
+    part-write-all-end
+    (λ c κs. search needs)
+    (search needs))

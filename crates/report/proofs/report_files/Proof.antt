@@ -1,0 +1,43 @@
+-- `report::report_files` meets its contract: the report on the parts of the files that are read.
+-- Assumes nothing.
+use mathlib.Core.Path.{refl}
+use native.Mathlib.Omega.{arith}
+use denote.Ref.{now}
+use borrow.Author.Needs.{needs}
+use Rattle.report.proofs.PrintedLaws.{readOf-part, filesReport-put}
+use Rattle.report.proofs.report_files.Statement.{statement}
+use Rattle.report.proofs.report_files.Tie as tie
+
+returns : tie.Need-returns
+returns c = (tt, (omega arith, refl))
+
+returns-2 : tie.Need-returns-2
+returns-2 c =
+    let r : tie.After-report = c .before .before in
+    let r3 : tie.After-read-of3 = r .before .before .before .before .before in
+    let a = r3 .before .before .before .before .before .before .before .before .args in
+    let j = readOf-part (r3 .before .before .read-of .result) (now (a .journal)) (r3 .before .before .read-of .ensures .2) in
+    let t = readOf-part (r3 .before .read-of2 .result) (now (a .table)) (r3 .before .read-of2 .ensures .2) in
+    let b = readOf-part (r3 .read-of3 .result) (now (a .bad)) (r3 .read-of3 .ensures .2) in
+    (omega arith, (omega arith, filesReport-put (now (a .journal)) (now (a .table)) (now (a .bad)) j t b (r .report .ensures .1)))
+
+pub report-files-spec : {M : Type 1} → statement M
+report-files-spec =
+    tie.close
+    (tie.spec
+    returns
+    (λ c κs. search needs)
+    (λ c κs. search needs)
+    (λ c κs. search needs)
+    (search needs)
+    (search needs)
+    (search needs)
+    (search needs)
+    (search needs)
+    (search needs)
+    (search needs)
+    (search needs)
+    (search needs)
+    (λ c κs. search needs)
+    (search needs)
+    returns-2)
