@@ -1,71 +1,15 @@
-//! The C interface (`crates/capi`) over slices. Each function returns the refusal's number, 0 if
-//! the call is accepted; `answer` gets the refusal's place or what the call answers.
+//! The C interface (`crates/capi`) over slices, with every loan in the caller's hand. Each function
+//! returns the refusal's number, 0 if the call is accepted; `answer` gets the refusal's place or what
+//! the call answers.
 
-/// The declarations of the static library: a slice is a pointer and a length.
-mod library {
-    extern "C" {
-        pub fn journal_start(
-            journal: *mut u8,
-            journal_length: usize,
-            items: u32,
-            answer: *mut u64,
-        ) -> u32;
-
-        pub fn journal_append(
-            journal: *mut u8,
-            journal_length: usize,
-            table: *mut i32,
-            table_length: usize,
-            counts: *mut u32,
-            kind: u8,
-            transaction: u16,
-            item: u32,
-            after: i32,
-            answer: *mut u64,
-        ) -> u32;
-
-        pub fn journal_check(
-            journal: *const u8,
-            journal_length: usize,
-            table: *const i32,
-            table_length: usize,
-            answer: *mut u64,
-        ) -> u32;
-
-        pub fn journal_chain(
-            journal: *const u8,
-            journal_length: usize,
-            transaction: u16,
-            lsns: *mut u32,
-            lsns_length: usize,
-            answer: *mut u64,
-        ) -> u32;
-
-        pub fn journal_undo(
-            journal: *const u8,
-            journal_length: usize,
-            table: *mut i32,
-            table_length: usize,
-            bad: *const u16,
-            bad_length: usize,
-            status: *mut u8,
-            status_length: usize,
-            out: *mut u8,
-            out_length: usize,
-            surviving: *mut u32,
-            undone: *mut u32,
-            aborted: *mut u32,
-            answer: *mut u64,
-        ) -> u32;
-    }
-}
+use journal::raw;
 
 // SAFETY, for every call below: each pointer comes from a reference that lives through the call,
 // with the length of its slice, and no two loans overlap.
 
 /// Starts a journal; answers 0.
 pub fn start(journal: &mut [u8], items: u32, answer: &mut u64) -> u32 {
-    unsafe { library::journal_start(journal.as_mut_ptr(), journal.len(), items, answer) }
+    unsafe { raw::journal_start(journal.as_mut_ptr(), journal.len(), items, answer) }
 }
 
 /// Adds one record (01: post); answers 0.
@@ -81,7 +25,7 @@ pub fn append(
     answer: &mut u64,
 ) -> u32 {
     unsafe {
-        library::journal_append(
+        raw::journal_append(
             journal.as_mut_ptr(),
             journal.len(),
             table.as_mut_ptr(),
@@ -99,7 +43,7 @@ pub fn append(
 /// Checks a journal with its table; answers how many transactions are active (01: open).
 pub fn check(journal: &[u8], table: &[i32], answer: &mut u64) -> u32 {
     unsafe {
-        library::journal_check(
+        raw::journal_check(
             journal.as_ptr(),
             journal.len(),
             table.as_ptr(),
@@ -112,7 +56,7 @@ pub fn check(journal: &[u8], table: &[i32], answer: &mut u64) -> u32 {
 /// Writes the record numbers of one transaction (01: slip); answers how many.
 pub fn chain(journal: &[u8], transaction: u16, lsns: &mut [u32], answer: &mut u64) -> u32 {
     unsafe {
-        library::journal_chain(
+        raw::journal_chain(
             journal.as_ptr(),
             journal.len(),
             transaction,
@@ -137,7 +81,7 @@ pub fn undo(
     answer: &mut u64,
 ) -> u32 {
     unsafe {
-        library::journal_undo(
+        raw::journal_undo(
             journal.as_ptr(),
             journal.len(),
             table.as_mut_ptr(),

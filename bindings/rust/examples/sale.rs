@@ -1,0 +1,15 @@
+//! One sale of 180 pence, posted and then taken back.
+
+use journal::{append, journal_bytes, kind, start, undo, Counts, Refusal, STATUS_BYTES};
+
+fn main() -> Result<(), Refusal> {
+    let (mut journal, mut table, mut counts) = ([0; journal_bytes(3)], [500], Counts::default());
+    start(&mut journal, 1)?;
+    for (kind, after) in [(kind::READ, 0), (kind::WRITE, 320), (kind::COMMIT, 0)] {
+        append(&mut journal, &mut table, &mut counts, kind, 1, 0, after)?;
+    }
+    let (mut marks, mut out) = ([0; STATUS_BYTES], [0; journal_bytes(3)]);
+    let totals = undo(&journal, &mut table, &[1], &mut marks, &mut out)?;
+    println!("{} taken back, item 0 is {}", totals.undone, table[0]);
+    Ok(())
+}

@@ -1,0 +1,337 @@
+//! The depot journal (document 01): start, post, check, slip and take-back, over the proved static
+//! library `capi`.
+//!
+//! A *transaction* is document 01's "sale", an *LSN* its "record number", *abort* its "rollback" and
+//! *active* its "open"; [`append`] is "post", [`chain`](chain()) is "slip", [`undo`] is "take-back".
+//!
+//! Every call takes slices of any length and content. It is accepted, or refused with a number and a
+//! place ([`Refusal`]); a refused call has written to nothing it was lent. No state is kept between
+//! calls, and none allocates: working arrays are on the stack, and `bindings/c/journal.h` says how much
+//! each call takes. If the process stops during a call, what is lent to be written may be written in
+//! part: work on a copy, then rename.
+//!
+//! ```
+//! use journal::{append, check, journal_bytes, kind, start, status, undo, Counts, STATUS_BYTES};
+//!
+//! # fn main() -> Result<(), journal::Refusal> {
+//! // Sale 1 takes 180 pence from item 0, sale 2 reads item 1.
+//! let mut journal = vec![0; journal_bytes(5)];
+//! let mut table = [500, 7];
+//! let mut counts = Counts::default();
+//! start(&mut journal, 2)?;
+//! append(&mut journal, &mut table, &mut counts, kind::READ, 1, 0, 0)?;
+//! append(&mut journal, &mut table, &mut counts, kind::WRITE, 1, 0, 320)?;
+//! append(&mut journal, &mut table, &mut counts, kind::COMMIT, 1, 0, 0)?;
+//! append(&mut journal, &mut table, &mut counts, kind::READ, 2, 1, 0)?;
+//! assert_eq!(check(&journal, &table)?, 1);
+//! append(&mut journal, &mut table, &mut counts, kind::COMMIT, 2, 0, 0)?;
+//! assert_eq!(counts, Counts { reads: 2, writes: 1, commits: 2, aborts: 0 });
+//!
+//! // Sale 1 turns out bad.
+//! let mut marks = [0; STATUS_BYTES];
+//! let mut out = vec![0; journal.len()];
+//! let totals = undo(&journal, &mut table, &[1], &mut marks, &mut out)?;
+//! assert_eq!((totals.surviving, totals.undone, totals.aborted), (1, 1, 0));
+//! assert_eq!(marks[1..=2], [status::UNDONE, status::SURVIVING]);
+//! assert_eq!(table, [500, 7]);
+//! assert_eq!(check(&out[..totals.bytes], &table)?, 0);
+//! # Ok(())
+//! # }
+//! ```
+
+#![warn(missing_docs)]
+
+pub mod raw;
+mod refusal;
+
+pub use refusal::{Reason, Refusal};
+
+/// Bytes of the head and of each record.
+pub const RECORD_BYTES: usize = 20;
+
+/// Records of a journal at most, the head not counted. They are numbered from 1.
+pub const MAX_RECORDS: usize = 3_200;
+
+/// Bytes of a journal of that many records.
+pub const MAX_BYTES: usize = journal_bytes(MAX_RECORDS);
+
+/// Items of a journal at most; it has at least one. They are numbered from 0.
+pub const MAX_ITEMS: usize = 1_024;
+
+/// The highest number of a transaction; the lowest is 1.
+pub const MAX_TRANSACTION: u16 = 1_024;
+
+/// Length of the status vector: one byte per transaction number, from 0.
+pub const STATUS_BYTES: usize = 1_025;
+
+/// Kinds of record. Plain bytes, as a journal holds them: [`append`] refuses every other one with
+/// [`Reason::Malformed`].
+pub mod kind {
+    /// A read.
+    pub const READ: u8 = 1;
+    /// A write.
+    pub const WRITE: u8 = 2;
+    /// A commit.
+    pub const COMMIT: u8 = 3;
+    /// An abort ("rollback").
+    pub const ABORT: u8 = 4;
+}
+
+/// Bytes of the status vector, as [`undo`] writes it.
+pub mod status {
+    /// No committed transaction of that number.
+    pub const NOT_COMMITTED: u8 = 0;
+    /// The transaction survives ("kept").
+    pub const SURVIVING: u8 = 1;
+    /// The transaction is undone ("taken back").
+    pub const UNDONE: u8 = 2;
+}
+
+/// Bytes of a journal of this many records: the head and the records.
+///
+/// ```
+/// assert_eq!(journal::journal_bytes(3), 80);
+/// ```
+pub const fn journal_bytes(records: usize) -> usize {
+    RECORD_BYTES * (records + 1)
+}
+
+/// How many records of each kind a journal has ("tally"). All are 0 for a journal just started.
+#[derive(Clone, Copy, Debug, Default, PartialEq, Eq)]
+#[repr(C)]
+pub struct Counts {
+    /// Reads.
+    pub reads: u32,
+    /// Writes.
+    pub writes: u32,
+    /// Commits.
+    pub commits: u32,
+    /// Aborts ("rollbacks").
+    pub aborts: u32,
+}
+
+/// What an accepted [`undo`] answers.
+#[derive(Clone, Copy, Debug, PartialEq, Eq)]
+pub struct Undone {
+    /// How many transactions survive ("kept").
+    pub surviving: u32,
+    /// How many are undone ("taken back").
+    pub undone: u32,
+    /// How many had been aborted ("dropped").
+    pub aborted: u32,
+    /// Bytes of the copy, from the front of `out`.
+    pub bytes: usize,
+}
+
+/// The answer of a call that returned this number.
+fn answered(number: u32, answer: u64) -> Result<u64, Refusal> {
+    match number {
+        0 => Ok(answer),
+        _ => Err(Refusal {
+            number,
+            place: answer,
+        }),
+    }
+}
+
+// SAFETY, for every call below: each pointer comes from a reference that lives through the call,
+// with the length of its slice, and the borrow rules keep what is written apart from all else.
+
+/// Starts a journal of this many items, without records. Writes the first 20 bytes of `journal`.
+///
+/// # Errors
+///
+/// In order: 1 (under 20 bytes), 2 (`items` is 0 or above 1,024). Place 0.
+///
+/// ```
+/// let mut journal = [0xFF; 40];
+/// journal::start(&mut journal, 3)?;
+/// assert_eq!(journal::check(&journal, &[500, 0, 1000])?, 0);
+/// assert_eq!(journal::start(&mut journal, 0).unwrap_err().to_string(), "head");
+/// # Ok::<(), journal::Refusal>(())
+/// ```
+pub fn start(journal: &mut [u8], items: u32) -> Result<(), Refusal> {
+    let mut answer = 0;
+    let number =
+        unsafe { raw::journal_start(journal.as_mut_ptr(), journal.len(), items, &mut answer) };
+    answered(number, answer).map(|_| ())
+}
+
+/// Adds one record ("post"). A write's before image is the table's amount.
+///
+/// Where accepted it writes the new record behind the last one, next of the transaction's record
+/// before it, and the head's count; in `table` the item of a write, or after an abort every item that
+/// the transaction wrote; and it raises one of `counts` by one. `journal` is the room, and may be
+/// longer than its records. `after` must be 0 unless the record is a write, `item` must be 0 for a
+/// commit or an abort.
+///
+/// # Errors
+///
+/// In order: 1 (under 20 bytes), 2, 1 (whole length), 3; 4 to 9, the lowest record first, at one
+/// record the lowest number; 10, 15; then for the new record 4, 6, 7, 8, with place record count + 1;
+/// 14.
+///
+/// ```
+/// use journal::{append, kind, Counts, Refusal};
+///
+/// let mut journal = [0; 60];
+/// let (mut table, mut counts) = ([500], Counts::default());
+/// journal::start(&mut journal, 1)?;
+/// let blind = append(&mut journal, &mut table, &mut counts, kind::WRITE, 1, 0, 320);
+/// assert_eq!(blind, Err(Refusal { number: 8, place: 1 }));
+/// append(&mut journal, &mut table, &mut counts, kind::READ, 1, 0, 0)?;
+/// append(&mut journal, &mut table, &mut counts, kind::WRITE, 1, 0, 320)?;
+/// assert_eq!(table, [320]);
+/// let full = append(&mut journal, &mut table, &mut counts, kind::COMMIT, 1, 0, 0);
+/// assert_eq!(full.unwrap_err().to_string(), "paper");
+/// # Ok::<(), journal::Refusal>(())
+/// ```
+pub fn append(
+    journal: &mut [u8],
+    table: &mut [i32],
+    counts: &mut Counts,
+    kind: u8,
+    transaction: u16,
+    item: u32,
+    after: i32,
+) -> Result<(), Refusal> {
+    let mut answer = 0;
+    // `Counts` is four u32 in the order of the library.
+    let counts: *mut Counts = counts;
+    let number = unsafe {
+        raw::journal_append(
+            journal.as_mut_ptr(),
+            journal.len(),
+            table.as_mut_ptr(),
+            table.len(),
+            counts.cast(),
+            kind,
+            transaction,
+            item,
+            after,
+            &mut answer,
+        )
+    };
+    answered(number, answer).map(|_| ())
+}
+
+/// Checks a journal with its table; answers how many transactions are active.
+///
+/// # Errors
+///
+/// In order: 1 (under 20 bytes), 2, 1 (whole length), 3; 4 to 9, the lowest record first, at one
+/// record the lowest number; 10.
+///
+/// ```
+/// let torn = journal::check(&[0; 19], &[]).unwrap_err();
+/// assert_eq!((torn.number, torn.place), (1, 0));
+/// ```
+pub fn check(journal: &[u8], table: &[i32]) -> Result<u32, Refusal> {
+    let mut answer = 0;
+    let number = unsafe {
+        raw::journal_check(
+            journal.as_ptr(),
+            journal.len(),
+            table.as_ptr(),
+            table.len(),
+            &mut answer,
+        )
+    };
+    // At most 1,024.
+    answered(number, answer).map(|active| active as u32)
+}
+
+/// Writes the record numbers of one transaction, in order, to the front of `lsns` ("slip"); answers
+/// how many there are. The rest of `lsns` is not written.
+///
+/// # Errors
+///
+/// In order: 1 (under 20 bytes), 2, 1 (whole length); 4 to 9, the lowest record first, at one record
+/// the lowest number; 12, 14, both with place 0.
+///
+/// ```
+/// use journal::{append, chain, kind, Counts};
+///
+/// let mut journal = [0; 80];
+/// let (mut table, mut counts) = ([500], Counts::default());
+/// journal::start(&mut journal, 1)?;
+/// for transaction in [4, 2, 4] {
+///     append(&mut journal, &mut table, &mut counts, kind::READ, transaction, 0, 0)?;
+/// }
+/// let mut lsns = [0; 3];
+/// let visited = chain(&journal, 4, &mut lsns)?;
+/// assert_eq!(lsns[..visited], [1, 3]);
+/// # Ok::<(), journal::Refusal>(())
+/// ```
+pub fn chain(journal: &[u8], transaction: u16, lsns: &mut [u32]) -> Result<usize, Refusal> {
+    let mut answer = 0;
+    let number = unsafe {
+        raw::journal_chain(
+            journal.as_ptr(),
+            journal.len(),
+            transaction,
+            lsns.as_mut_ptr(),
+            lsns.len(),
+            &mut answer,
+        )
+    };
+    // At most the length of `lsns`.
+    answered(number, answer).map(|visited| visited as usize)
+}
+
+/// Undoes the listed transactions and every committed transaction that read from them, directly or
+/// through others ("take-back").
+///
+/// Where accepted, `table` has the amounts that the surviving transactions leave, `status` has a byte
+/// of [`status`](mod@status) per transaction number, and the front of `out` is the copy: the journal
+/// of the surviving transactions. The rest of `out` is not written. `bad` may be empty, and may repeat
+/// a number.
+///
+/// # Errors
+///
+/// In order: 1 (under 20 bytes), 2, 1 (whole length), 3; 4 to 9, the lowest record first, at one
+/// record the lowest number; 10, 11, 13, 12, 14.
+///
+/// ```
+/// let mut journal = [0; 20];
+/// journal::start(&mut journal, 1)?;
+/// let (mut table, mut status, mut out) = ([500], [0; journal::STATUS_BYTES], [0; 20]);
+/// let unknown = journal::undo(&journal, &mut table, &[4], &mut status, &mut out);
+/// assert_eq!(unknown.unwrap_err().to_string(), "unknown, place 0");
+/// assert_eq!(journal::undo(&journal, &mut table, &[], &mut status, &mut out)?.bytes, 20);
+/// # Ok::<(), journal::Refusal>(())
+/// ```
+pub fn undo(
+    journal: &[u8],
+    table: &mut [i32],
+    bad: &[u16],
+    status: &mut [u8],
+    out: &mut [u8],
+) -> Result<Undone, Refusal> {
+    let (mut surviving, mut undone, mut aborted, mut answer) = (0, 0, 0, 0);
+    let number = unsafe {
+        raw::journal_undo(
+            journal.as_ptr(),
+            journal.len(),
+            table.as_mut_ptr(),
+            table.len(),
+            bad.as_ptr(),
+            bad.len(),
+            status.as_mut_ptr(),
+            status.len(),
+            out.as_mut_ptr(),
+            out.len(),
+            &mut surviving,
+            &mut undone,
+            &mut aborted,
+            &mut answer,
+        )
+    };
+    // The bytes are at most the length of `out`.
+    answered(number, answer).map(|bytes| Undone {
+        surviving,
+        undone,
+        aborted,
+        bytes: bytes as usize,
+    })
+}
