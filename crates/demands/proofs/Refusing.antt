@@ -1,4 +1,4 @@
--- Refusals mean what they say: the statements Exactly, OnlyUnder, LowestRecord and Untouched of specs/Refusing.antt, proved.
+-- Refusals mean what they say: the statements Exactly, OnlyUnder, LowestRecord, LowestPlace, Enough and Untouched of specs/Refusing.antt, proved.
 -- Assumes nothing.
 use mathlib.Core.Path.{_≡_, refl, sym, _∙_, ap}
 use mathlib.Core.Bool.{true, Bool, false}
@@ -9,18 +9,24 @@ use Prim.Native.Nat.{ℕ, zero, suc, _+_, _<_, _≤_}
 use native.Mathlib.Omega.{arith}
 use lib.ListN.{length, getD}
 use Rattle.lists.specs.Tables.{each}
-use Rattle.lists.proofs.BoolLaws.{byCases}
+use borrow.Author.Tests.{ltb-true}
+use Rattle.lists.proofs.BoolLaws.{byCases, clash}
 use Rattle.format.specs.declared.Record.{Record}
 use Rattle.model.specs.History.{Amount}
-use Rattle.journal.specs.Journal.{count, items, opOf, whole}
-use Rattle.journal.specs.Refusals.{Tally, unsettled, stillActive, unknown, absent, malformed, closed, crossed, blind, noRoom, wrongTally, tooShort, wrongStatus}
+use Rattle.model.specs.Undo.{surviving, repaired}
+use Rattle.journal.specs.Journal.{count, items, opOf, records, whole}
+use Rattle.journal.specs.Refusals.{Tally, badHead, unsettled, stillActive, unknown, absent, malformed, closed, crossed, blind, noRoom, wrongTally, tooShort, wrongStatus}
 use Rattle.journal.specs.Orders.{Refusal, Trial, Order, try, decide, openOrder, recordOrder, recordsOrder, tableOrder, settledOrder, startOrder, checkOrder, chainOrder, appendOrder, undoOrder}
-use Rattle.journal.specs.Copy.{copy}
+use Rattle.journal.specs.Copy.{copyRecords, copy}
 use Rattle.journal.specs.Calls.{refused, answered, start, check, chainOf, chain, newRecord, append, undo}
 use Rattle.journal.proofs.Clear.{All, all-append, all-try, all-each, decide-all, try-clear, decide-clear}
+use Rattle.journal.proofs.Checked.{clear-checks}
+use Rattle.journal.proofs.Encoded.{length-journalOf}
+use Rattle.journal.proofs.Passing.{head-facts}
+use Rattle.journal.proofs.Records.{length-copied, length-records}
 use Rattle.journal.proofs.OrdersLaws.{decide-append-none, decide-append-some, decide-cases, decide-each}
 use Rattle.demands.proofs.DaysLaws.{answered-some, answered-refused}
-use Rattle.demands.specs.Refusing.{First, here, later, Exactly, Unsound, by-short, by-torn, by-head, by-smudge, by-chain, by-closed, by-crossed, by-blind, by-before, Unpassed, by-unsound, by-table, by-close, Unstarted, by-bytes, by-items, Unwalked, unsound-walk, by-absent, by-list, Unposted, unpassed-post, by-tally, new-smudge, new-closed, new-crossed, new-blind, by-room, Untaken, unpassed-undo, by-open, by-marks, by-unknown, by-paper, OnlyUnder, LowestRecord, Untouched, Lowest, LowestPlace}
+use Rattle.demands.specs.Refusing.{First, here, later, Exactly, Unsound, by-short, by-torn, by-head, by-smudge, by-chain, by-closed, by-crossed, by-blind, by-before, Unpassed, by-unsound, by-table, by-close, Unstarted, by-bytes, by-items, Unwalked, unsound-walk, by-absent, by-list, Unposted, unpassed-post, by-tally, new-smudge, new-closed, new-crossed, new-blind, by-room, Untaken, unpassed-undo, by-open, by-marks, by-unknown, by-paper, OnlyUnder, LowestRecord, Untouched, Lowest, LowestPlace, Enough}
 
 -- ---- answers
 
@@ -274,45 +280,51 @@ chain-lowest b s l m n i low high e =
     (middle r P (outside n i 4 9 low high) (openOrder b) (recordsOrder b) (try 12 0 (absent b s)) (open-outside 4 9 (omega arith) b) (one-outside 4 9 12 0 _ (λ l u. omega arith))
     (front r P (outside n i 4 9 low high) (openOrder b ++ recordsOrder b ++ try 12 0 (absent b s)) (try 14 0 (tooShort l m)) (one-outside 4 9 14 0 _ (λ l u. omega arith)) e))
 
-undo-lowest : (b : List ℕ) (t : List Amount) (bad status out : List ℕ) (m n i : ℕ) → 4 ≤ n → n ≤ 9 → decide (undoOrder b t bad status out m) ≡ some (record { number = n; place = i }) → Lowest b n i
+-- what refuses take-back by one of check's numbers is check's
+undo-check : (b : List ℕ) (t : List Amount) (bad status out : List ℕ) (m n i : ℕ) → n ≤ 10 → decide (undoOrder b t bad status out m) ≡ some (record { number = n; place = i })
+    → decide (checkOrder b t) ≡ some (record { number = n; place = i })
 unfolding undoOrder
-undo-lowest b t bad status out m n i low high e =
+undo-check b t bad status out m n i high e =
     let r : Refusal = record { number = n; place = i } in
-    let P = Outside 4 9 in
-    let not-it = outside n i 4 9 low high in
+    let P = Outside 0 10 in
+    let not-it = outside n i 0 10 (omega arith) high in
     let active-order = each (λ s. try 11 s (stillActive b s)) 1 1024 in
     let named-order = each (λ k. try 12 k (unknown b (getD bad k 0))) 0 (length bad) in
     let o1 = checkOrder b t ++ active-order in
     let o2 = o1 ++ try 13 0 (wrongStatus status) in
-    let e1 = front r P not-it (o2 ++ named-order) (try 14 0 (tooShort out m)) (one-outside 4 9 14 0 _ (λ l u. omega arith)) e in
-    let e2 = front r P not-it o2 named-order (all-each P (λ k. try 12 k (unknown b (getD bad k 0))) 0 (length bad) (λ k l u. one-outside 4 9 12 k _ (λ l u. omega arith))) e1 in
-    let e3 = front r P not-it o1 (try 13 0 (wrongStatus status)) (one-outside 4 9 13 0 _ (λ l u. omega arith)) e2 in
-    check-lowest b t n i low high
-    (front r P not-it (checkOrder b t) active-order (all-each P (λ s. try 11 s (stillActive b s)) 1 1024 (λ s l u. one-outside 4 9 11 s _ (λ l u. omega arith))) e3)
+    let e1 = front r P not-it (o2 ++ named-order) (try 14 0 (tooShort out m)) (one-outside 0 10 14 0 _ (λ l u. omega arith)) e in
+    let e2 = front r P not-it o2 named-order (all-each P (λ k. try 12 k (unknown b (getD bad k 0))) 0 (length bad) (λ k l u. one-outside 0 10 12 k _ (λ l u. omega arith))) e1 in
+    let e3 = front r P not-it o1 (try 13 0 (wrongStatus status)) (one-outside 0 10 13 0 _ (λ l u. omega arith)) e2 in
+    front r P not-it (checkOrder b t) active-order (all-each P (λ s. try 11 s (stillActive b s)) 1 1024 (λ s l u. one-outside 0 10 11 s _ (λ l u. omega arith))) e3
 
 -- post's own record has a place behind the journal's
 abbrev Behind : ℕ → Trial → Type 0
-Behind n t = t .refusal .place ≤ n → Outside 4 9 t
+Behind n t = (t .refusal .number ≤ 9 → t .refusal .place ≤ n) → t .refusal .number ≤ 10 → ⊥
 
-append-lowest : (b : List ℕ) (t : List Amount) (c : Tally) (q : Record) (n i : ℕ) → 4 ≤ n → n ≤ 9 → i ≤ count b → decide (appendOrder b t c q) ≡ some (record { number = n; place = i }) → Lowest b n i
+own : (n k : ℕ) → k ≤ 9 → (k ≤ 9 → suc n ≤ n) → k ≤ 10 → ⊥
+own n k l f u = let g = f l in omega arith
+
+-- and so for post, but for its own record
+append-check : (b : List ℕ) (t : List Amount) (c : Tally) (q : Record) (n i : ℕ) → n ≤ 10 → (n ≤ 9 → i ≤ count b) → decide (appendOrder b t c q) ≡ some (record { number = n; place = i })
+    → decide (checkOrder b t) ≡ some (record { number = n; place = i })
 unfolding appendOrder
-append-lowest b t c q n i low high within e =
+append-check b t c q n i high within e =
     let r : Refusal = record { number = n; place = i } in
     let P = Behind (count b) in
     let new : ℕ = suc (count b) in
     let o = opOf new q in
-    let not-it : (x : Trial) → P x → x .refusal ≡ r → ⊥ = λ x f w. f (rw w within) (rw w low) (rw w high) in
+    let not-it : (x : Trial) → P x → x .refusal ≡ r → ⊥ = λ x f w. f (rw w within) (rw w high) in
     let o15 = checkOrder b t ++ try 15 0 (wrongTally b c) in
     let o4 = o15 ++ try 4 new (malformed (items b) q) in
     let o6 = o4 ++ try 6 new (closed (whole b) o) in
     let o7 = o6 ++ try 7 new (crossed (whole b) o) in
     let o8 = o7 ++ try 8 new (blind (whole b) o) in
-    let e8 = front r P not-it o8 (try 14 0 (noRoom b)) (all-try P 14 0 _ (λ h l u. omega arith)) e in
-    let e7 = front r P not-it o7 (try 8 new (blind (whole b) o)) (all-try P 8 new _ (λ h l u. omega arith)) e8 in
-    let e6 = front r P not-it o6 (try 7 new (crossed (whole b) o)) (all-try P 7 new _ (λ h l u. omega arith)) e7 in
-    let e4 = front r P not-it o4 (try 6 new (closed (whole b) o)) (all-try P 6 new _ (λ h l u. omega arith)) e6 in
-    let e15 = front r P not-it o15 (try 4 new (malformed (items b) q)) (all-try P 4 new _ (λ h l u. omega arith)) e4 in
-    check-lowest b t n i low high (front r P not-it (checkOrder b t) (try 15 0 (wrongTally b c)) (all-try P 15 0 _ (λ h l u. omega arith)) e15)
+    let e8 = front r P not-it o8 (try 14 0 (noRoom b)) (all-try P 14 0 _ (λ f u. omega arith)) e in
+    let e7 = front r P not-it o7 (try 8 new (blind (whole b) o)) (all-try P 8 new _ (own (count b) _ (omega arith))) e8 in
+    let e6 = front r P not-it o6 (try 7 new (crossed (whole b) o)) (all-try P 7 new _ (own (count b) _ (omega arith))) e7 in
+    let e4 = front r P not-it o4 (try 6 new (closed (whole b) o)) (all-try P 6 new _ (own (count b) _ (omega arith))) e6 in
+    let e15 = front r P not-it o15 (try 4 new (malformed (items b) q)) (all-try P 4 new _ (own (count b) _ (omega arith))) e4 in
+    front r P not-it (checkOrder b t) (try 15 0 (wrongTally b c)) (all-try P 15 0 _ (λ f u. omega arith)) e15
 
 pub lowest-record : LowestRecord
 unfolding check chain append undo
@@ -321,9 +333,11 @@ lowest-record =
       check = λ b t n i l u e. check-lowest b t n i l u (answered-refused (decide (checkOrder b t)) _ n i e);
       chain = λ b s l n i low high e. chain-lowest b s l (length (chainOf b s)) n i low high (answered-refused (decide (chainOrder b s l (length (chainOf b s)))) (length (chainOf b s)) n i e);
       append = λ b t c kind s x a n i low high within e.
-          append-lowest b t c (newRecord t kind s x a) n i low high within (answered-refused (decide (appendOrder b t c (newRecord t kind s x a))) tt n i e);
+          check-lowest b t n i low high
+          (append-check b t c (newRecord t kind s x a) n i (omega arith) (λ h. within) (answered-refused (decide (appendOrder b t c (newRecord t kind s x a))) tt n i e));
       undo = λ b t bad status out n i low high e.
-          undo-lowest b t bad status out (length (copy bad b)) n i low high (answered-refused (decide (undoOrder b t bad status out (length (copy bad b)))) _ n i e);
+          check-lowest b t n i low high
+          (undo-check b t bad status out (length (copy bad b)) n i (omega arith) (answered-refused (decide (undoOrder b t bad status out (length (copy bad b)))) _ n i e));
     }
 
 -- an order of single conditions by index: none before the one that decides holds
@@ -375,13 +389,80 @@ module _ (b : List ℕ) (t : List Amount) (bad status out : List ℕ) (m : ℕ) 
       (one-outside 12 12 14 0 _ (λ l u. omega arith)) e) i (omega arith) h
 
 pub lowest-place : LowestPlace
-unfolding check undo
+unfolding check append undo
 lowest-place =
     record {
       item = λ b t x e. item-lowest b t x (answered-refused (decide (checkOrder b t)) _ 10 x e);
+      appendItem = λ b t c kind s v a x e.
+          item-lowest b t x
+          (append-check b t c (newRecord t kind s v a) 10 x (omega arith) (λ h. absurd (omega arith)) (answered-refused (decide (appendOrder b t c (newRecord t kind s v a))) tt 10 x e));
+      undoItem = λ b t bad status out x e.
+          item-lowest b t x
+          (undo-check b t bad status out (length (copy bad b)) 10 x (omega arith) (answered-refused (decide (undoOrder b t bad status out (length (copy bad b)))) _ 10 x e));
       transaction = λ b t bad status out s e. active-lowest b t bad status out (length (copy bad b)) s (answered-refused (decide (undoOrder b t bad status out (length (copy bad b)))) _ 11 s e);
       position = λ b t bad status out k e. position-lowest b t bad status out (length (copy bad b)) k (answered-refused (decide (undoOrder b t bad status out (length (copy bad b)))) _ 12 k e);
     }
+
+-- ---- marks and paper that always do
+
+unsound-low : {b : List ℕ} (n p : ℕ) → Unsound b n p → n ≤ 12
+unsound-low _ _ (by-short _) = omega arith
+unsound-low _ _ (by-torn _) = omega arith
+unsound-low _ _ (by-head _) = omega arith
+unsound-low _ _ (by-smudge _ _ _) = omega arith
+unsound-low _ _ (by-chain _ _ _) = omega arith
+unsound-low _ _ (by-closed _ _) = omega arith
+unsound-low _ _ (by-crossed _ _) = omega arith
+unsound-low _ _ (by-blind _ _) = omega arith
+unsound-low _ _ (by-before _ _) = omega arith
+
+unpassed-low : {b : List ℕ} {t : List Amount} (n p : ℕ) → Unpassed b t n p → n ≤ 12
+unpassed-low n p (by-unsound u) = unsound-low n p u
+unpassed-low _ _ (by-table _) = omega arith
+unpassed-low _ _ (by-close _ _) = omega arith
+
+module _ (b : List ℕ) (t : List Amount) (bad status out : List ℕ) where
+  abbrev Low : ℕ → ℕ → Type 0
+  Low n p = n ≤ 12
+
+  check-low : All (Means Low) (checkOrder b t)
+  check-low = means-more unpassed-low (check-means b t)
+
+  -- the copy has no more records than the journal
+  copy-fits : badHead b ≡ false → 64020 ≤ length out → tooShort out (length (copy bad b)) ≡ true → ⊥
+  unfolding tooShort copy copyRecords
+  copy-fits h room e =
+      let l = length-copied (surviving bad (whole b)) (repaired bad (whole b)) (records b (count b)) in
+      omega (arith, ltb-true (length out) (length (copy bad b)) e, length-journalOf (items b) (copyRecords bad b), l, length-records b (count b), head-facts b h .few)
+
+  undo-low : badHead b ≡ false → length status ≡ 1025 → 64020 ≤ length out → All (Means Low) (undoOrder b t bad status out (length (copy bad b)))
+  unfolding undoOrder wrongStatus
+  undo-low h marks room =
+      let M = Means Low in
+      all-append M
+      (all-append M
+      (all-append M
+      (all-append M check-low (all-each M (λ s. try 11 s (stillActive b s)) 1 1024 (λ s l m. all-try M 11 s _ (λ _. omega arith))))
+      (all-try M 13 0 _ (λ e. absurd (clash e (rw marks)))))
+      (all-each M (λ k. try 12 k (unknown b (getD bad k 0))) 0 (length bad) (λ k l m. all-try M 12 k _ (λ _. omega arith))))
+      (all-try M 14 0 _ (λ e. absurd (copy-fits h room e)))
+
+  undo-refused : (n : ℕ) (r : Refusal) → decide (checkOrder b t) ≡ some r → decide (undoOrder b t bad status out n) ≡ some r
+  unfolding undoOrder
+  undo-refused n r e = decide-append-some _ _ (decide-append-some _ _ (decide-append-some _ _ (decide-append-some _ _ e)))
+
+-- check refuses, or the head is right
+pub enough : Enough
+unfolding undo
+enough b t bad status out number place marks room e =
+    let o = undoOrder b t bad status out (length (copy bad b)) in
+    decide-cases (checkOrder b t)
+    (λ d. answer-means (Low b t bad status out) o _ (undo-low b t bad status out (clear-checks b t (decide-clear _ d) .sound .head) marks room) number place e)
+    (λ r d.
+    let e2 : decide (checkOrder b t) ≡ some (record { number = number; place = place }) =
+    d ∙ sym (undo-refused b t bad status out _ r d) ∙ answered-refused (decide o) _ number place e in
+    let (x, h, q, f) = decide-all (Means (Low b t bad status out)) (check-low b t bad status out) (record { number = number; place = place }) e2 in
+    rw q at (f h))
 
 -- ---- a refused call writes nothing
 

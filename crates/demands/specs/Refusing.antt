@@ -108,10 +108,20 @@ pub record LowestRecord : Type 0 where
 -- 10 gives the lowest such item, 11 the lowest such sale, 12 the lowest list position.
 pub record LowestPlace : Type 0 where
   pub item : (b : List ℕ) (t : List Amount) (x : ℕ) → check b t ≡ refused 10 x → (y : ℕ) → y < x → unsettled b t y ≡ false
+  pub appendItem : (b : List ℕ) (t : List Amount) (c : Tally) (kind s v : ℕ) (a : Amount) (x : ℕ) → append b t c kind s v a .answer ≡ refused 10 x
+      → (y : ℕ) → y < x → unsettled b t y ≡ false
+  pub undoItem : (b : List ℕ) (t : List Amount) (bad status out : List ℕ) (x : ℕ) → undo b t bad status out .answer ≡ refused 10 x
+      → (y : ℕ) → y < x → unsettled b t y ≡ false
   pub transaction : (b : List ℕ) (t : List Amount) (bad status out : List ℕ) (s : ℕ) → undo b t bad status out .answer ≡ refused 11 s
       → (v : ℕ) → 1 ≤ v → v < s → stillActive b v ≡ false
   pub position : (b : List ℕ) (t : List Amount) (bad status out : List ℕ) (k : ℕ) → undo b t bad status out .answer ≡ refused 12 k
       → (i : ℕ) → i < k → unknown b (getD bad i 0) ≡ false
+
+-- Marks of 1,025 and paper of 64,020 bytes always do: then take-back refuses by 1 to 12 alone. (The program lends these.)
+abbrev pub Enough : Type 0
+Enough =
+    (b : List ℕ) (t : List Amount) (bad status out : List ℕ) (number place : ℕ) → length status ≡ 1025 → 64020 ≤ length out
+    → undo b t bad status out .answer ≡ refused number place → number ≤ 12
 
 -- ---- a refused call writes to nothing lent
 

@@ -3,6 +3,7 @@ ghost use mathlib.Core.Path.{_≡_};
 ghost use Prim.Native.Nat.{_≤_};
 ghost use lib.ListN.{length};
 ghost use Rattle.files.specs.Loads.{Loads};
+use libc::STDERR_FILENO;
 use libc::STDOUT_FILENO;
 use report::Printed;
 
@@ -49,9 +50,11 @@ fn load_from(folder: &[u8], name: &[u8], buf: &mut [u8]) -> Loaded
     ensures { λ r. ⌜ Loads r (now (buf .exit)) ⌝ }
 {
     if folder.len() > 4000 {
+        io::write_all(STDERR_FILENO, b"a folder's name is too long\n");
         return Loaded::Failed;
     }
     if name.len() > 90 {
+        io::write_all(STDERR_FILENO, b"a file's name is too long\n");
         return Loaded::Failed;
     }
     let mut path = [0u8; 4096];
@@ -74,7 +77,10 @@ fn print(journal: &[u8], table: &[u8], bad: &[u8]) {
     let Printed::Bytes(n) = printed else {
         return;
     };
-    io::write_all(STDOUT_FILENO, &out[0..n]);
+    if io::write_all(STDOUT_FILENO, &out[0..n]) {
+        return;
+    }
+    os::fail(b"standard output");
 }
 
 // Prints the report on the three files of the folder. Where one is there and cannot be read, nothing is printed.

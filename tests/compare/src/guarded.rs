@@ -1,9 +1,20 @@
-//! A loan between two runs of guard cells.
+//! A loan between two runs of guard cells. With GUARDS=0 in the environment a loan is a piece of
+//! memory of its own instead, so that valgrind sees a load beside it too.
 
 use std::fmt::Debug;
+use std::sync::OnceLock;
 
 /// Guard cells on each side; odd, so that a run of bytes begins at an odd offset.
 const CELLS: usize = 63;
+
+/// The guard cells of this run.
+fn cells() -> usize {
+    static CHOSEN: OnceLock<usize> = OnceLock::new();
+    *CHOSEN.get_or_init(|| match std::env::var("GUARDS").as_deref() {
+        Ok("0") => 0,
+        _ => CELLS,
+    })
+}
 
 /// What is lent, with the value of its guard cells.
 pub trait Cell: Copy + PartialEq + Debug {
@@ -31,32 +42,39 @@ impl Cell for u64 {
 }
 
 /// A copy of a slice with guard cells on both sides.
-pub struct Guarded<T>(Vec<T>);
+pub struct Guarded<T> {
+    cells: Vec<T>,
+    guards: usize,
+}
 
 impl<T: Cell> Guarded<T> {
     pub fn new(slice: &[T]) -> Guarded<T> {
-        let mut cells = vec![T::GUARD; CELLS + slice.len() + CELLS];
-        cells[CELLS..CELLS + slice.len()].copy_from_slice(slice);
-        Guarded(cells)
+        Guarded::between(cells(), slice)
+    }
+
+    fn between(guards: usize, slice: &[T]) -> Guarded<T> {
+        let mut cells = vec![T::GUARD; guards + slice.len() + guards];
+        cells[guards..guards + slice.len()].copy_from_slice(slice);
+        Guarded { cells, guards }
     }
 
     /// The loan.
     pub fn lent(&mut self) -> &mut [T] {
-        let end = self.0.len() - CELLS;
-        &mut self.0[CELLS..end]
+        let end = self.cells.len() - self.guards;
+        &mut self.cells[self.guards..end]
     }
 
     /// No guard cell has changed.
     fn intact(&self) -> bool {
-        let end = self.0.len() - CELLS;
-        let guards = self.0[..CELLS].iter().chain(&self.0[end..]);
+        let end = self.cells.len() - self.guards;
+        let guards = self.cells[..self.guards].iter().chain(&self.cells[end..]);
         guards.copied().all(|cell| cell == T::GUARD)
     }
 
     /// The loan afterwards.
     pub fn back(&self) -> &[T] {
         assert!(self.intact(), "a store outside the loan");
-        &self.0[CELLS..self.0.len() - CELLS]
+        &self.cells[self.guards..self.cells.len() - self.guards]
     }
 
     /// Copies the loan back to where it came from.
@@ -89,7 +107,7 @@ mod tests {
 
     #[test]
     fn a_store_in_the_loan_is_handed_back() {
-        let mut lent = Guarded::new(&[1u8, 2]);
+        let mut lent = Guarded::between(CELLS, &[1u8, 2]);
         lent.lent()[1] = 3;
         assert_eq!(lent.back(), [1, 3]);
     }
@@ -97,9 +115,15 @@ mod tests {
     #[test]
     fn a_store_on_either_side_of_the_loan_is_seen() {
         for cell in [0, CELLS - 1, CELLS + 2, 2 * CELLS + 1] {
-            let mut lent = Guarded::new(&[1i32, 2]);
-            lent.0[cell] = 0;
+            let mut lent = Guarded::between(CELLS, &[1i32, 2]);
+            lent.cells[cell] = 0;
             assert!(!lent.intact());
         }
+    }
+
+    #[test]
+    fn a_run_of_bytes_begins_at_an_odd_address() {
+        let mut lent = Guarded::between(CELLS, &[1u8, 2]);
+        assert_eq!(lent.lent().as_ptr() as usize % 2, 1);
     }
 }

@@ -254,3 +254,39 @@ pub fn undos_in_turn(calls: &impl Implementation, sequence: &UndoSequence) -> Ve
     }
     steps
 }
+
+/// An accepted undo: the answer, the table left, the numbers marked 2 and those marked 1, and
+/// the repaired journal.
+pub struct Repair {
+    pub answer: Undone,
+    pub table: Vec<i32>,
+    pub undone: Vec<u16>,
+    pub surviving: Vec<u16>,
+    pub repaired: Vec<u8>,
+}
+
+/// An undo that is accepted, with a status vector and output buffer that fit. Nothing behind the
+/// repaired journal was written, and the marks are 0, 1 and 2.
+pub fn repair(calls: &impl Implementation, journal: &[u8], table: &[i32], bad: &[u16]) -> Repair {
+    let mut table = table.to_vec();
+    let mut status = [0xAA; 1_025];
+    let mut out = vec![0xAA; journal.len() + 20];
+    let answer = calls.undo(journal, &mut table, bad, &mut status, &mut out);
+    let answer = answer.unwrap();
+    let bytes = answer.bytes as usize;
+    assert!(out[bytes..].iter().all(|&b| b == 0xAA));
+    assert!(status.iter().all(|&state| state <= 2));
+    let with_state = |state: u8| {
+        (0..1_025u16)
+            .filter(|&t| status[t as usize] == state)
+            .collect()
+    };
+    out.truncate(bytes);
+    Repair {
+        answer,
+        table,
+        undone: with_state(2),
+        surviving: with_state(1),
+        repaired: out,
+    }
+}

@@ -3,6 +3,7 @@
 //! Each function is written straight from a sentence of the document and scans the earlier
 //! records wherever that is plainest. It is there to be compared with, not to be fast.
 //! `days` draws the inputs for that comparison, `compare` runs all calls over one of them.
+//! `properties` has what document 01 says of all days, for any implementation of the calls.
 //!
 //! Every call takes any bytes whatever. A refused call has written to nothing it was lent.
 
@@ -12,8 +13,10 @@ pub mod compare;
 pub mod days;
 pub mod format;
 pub mod projection;
+pub mod properties;
 pub mod refusal;
 mod report;
+pub mod run;
 mod undo;
 mod validate;
 

@@ -3,10 +3,10 @@
 
 use plain::compare::{answers, Answers, Plain};
 use plain::days::{day, Day};
+use plain::properties::loans::refused_calls_write_nothing;
+use plain::run::{on_threads, Seeds, DAYS, REFUSALS};
 use plain::Refusal;
 use std::collections::BTreeMap;
-
-const DAYS: u64 = 20_000;
 
 /// How often each call met each case.
 type Met = BTreeMap<(&'static str, String), u32>;
@@ -73,31 +73,11 @@ fn note_report(met: &mut Met, text: &[u8]) {
     }
 }
 
-/// A refused call leaves every loan as it was.
-fn loans_untouched(day: &Day, answers: &Answers) {
-    if answers.start.answer.is_err() {
-        assert_eq!(answers.start.journal, day.fresh);
-    }
-    if answers.append.answer.is_err() {
-        assert_eq!(answers.append.journal, day.journal);
-        assert_eq!(answers.append.table, day.table);
-        assert_eq!(answers.append.counts, day.counts);
-    }
-    if answers.chain.answer.is_err() {
-        assert_eq!(answers.chain.lsns, day.lsns);
-    }
-    if answers.undo.answer.is_err() {
-        assert_eq!(answers.undo.table, day.table);
-        assert_eq!(answers.undo.status, day.status);
-        assert_eq!(answers.undo.out, day.out);
-    }
-}
-
-fn met_in(seeds: impl Iterator<Item = u64>) -> Met {
+fn met_in(seeds: Seeds) -> Met {
     let mut met = Met::new();
     for day in seeds.map(day) {
         let answers = answers(&Plain, &day);
-        loans_untouched(&day, &answers);
+        refused_calls_write_nothing(&day, &answers);
         note_answer(&mut met, "start", &answers.start.answer);
         note_answer(&mut met, "append", &answers.append.answer);
         note_answer(&mut met, "check", &answers.check);
@@ -112,16 +92,6 @@ fn met_in(seeds: impl Iterator<Item = u64>) -> Met {
     }
     met
 }
-
-/// What each call can give: its refusals in the order of document 01, and an accepted call.
-const REFUSALS: [(&str, &[u32]); 6] = [
-    ("start", &[1, 2]),
-    ("append", &[1, 2, 3, 4, 5, 6, 7, 8, 9, 10, 14, 15]),
-    ("check", &[1, 2, 3, 4, 5, 6, 7, 8, 9, 10]),
-    ("chain", &[1, 2, 4, 5, 6, 7, 8, 9, 12, 14]),
-    ("undo", &[1, 2, 3, 4, 5, 6, 7, 8, 9, 10, 11, 12, 13, 14]),
-    ("report", &[1, 2, 3, 4, 5, 6, 7, 8, 9, 10, 11, 12]),
-];
 
 const CASES: [(&str, &str); 20] = [
     ("append", "4 old"),
@@ -148,12 +118,9 @@ const CASES: [(&str, &str); 20] = [
 
 #[test]
 fn each_refusal_of_each_call_is_met() {
-    let halves: Vec<_> = (0..2)
-        .map(|half| std::thread::spawn(move || met_in((half..DAYS).step_by(2))))
-        .collect();
     let mut met = Met::new();
-    for half in halves {
-        for (case, times) in half.join().unwrap() {
+    for part in on_threads(DAYS, met_in) {
+        for (case, times) in part {
             *met.entry(case).or_default() += times;
         }
     }

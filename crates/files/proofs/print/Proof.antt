@@ -32,4 +32,7 @@ print-spec =
     (search needs)
     part-write-all-end
     (λ c κs. search needs)
+    (search needs)
+    (search needs)
+    (λ c κs. search needs)
     (search needs))

@@ -1,8 +1,8 @@
 //! The points where two careful readers of document 01 differ: one test for each reading.
 
-mod common;
-use common::*;
-use plain::{chain, check, report};
+use crate::common::*;
+use crate::{report, CALLS};
+use plain::compare::Implementation;
 
 #[test]
 fn chains_compare_raw_bytes() {
@@ -126,7 +126,7 @@ fn order_of_undo() {
     let call = |lines: &[Line], status: usize, bad: &[u16], out: usize| {
         let mut status = vec![0; status];
         let mut out = vec![0; out];
-        plain::undo(&journal(1, lines), &mut [0], bad, &mut status, &mut out)
+        CALLS.undo(&journal(1, lines), &mut [0], bad, &mut status, &mut out)
     };
     let active = [read(1, 0)];
     let lines = [read(1, 0), commit(1)];
@@ -146,7 +146,7 @@ fn order_of_append() {
     let mut wrong = [9; 4];
     let mut room = bytes.clone();
     room.extend([0; 20]);
-    let answer = plain::append(&mut room, &mut table.clone(), &mut wrong, 0, 0, 9, 9);
+    let answer = CALLS.append(&mut room, &mut table.clone(), &mut wrong, 0, 0, 9, 9);
     assert_eq!(answer, refused(15, 0));
     // 4: a nonzero after on a read, a nonzero item or after on an end, an item too high.
     assert_eq!(append_refusal(&bytes, &table, line(1, 3, 1, 0, 1)), (4, 5));
@@ -175,7 +175,7 @@ fn order_of_append() {
         (read(3, 1), refused(14, 0)),
     ] {
         let mut by_kind = [2, 1, 1, 0];
-        let answer = plain::append(
+        let answer = CALLS.append(
             &mut bytes.clone(),
             &mut table.clone(),
             &mut by_kind,
@@ -299,7 +299,7 @@ fn counts_cannot_overflow() {
     let mut bytes = journal(1, &[]);
     bytes.extend([0; 20]);
     let mut by_kind = [u32::MAX, 0, 0, 0];
-    let answer = plain::append(&mut bytes, &mut [0], &mut by_kind, 1, 1, 0, 0);
+    let answer = CALLS.append(&mut bytes, &mut [0], &mut by_kind, 1, 1, 0, 0);
     assert_eq!(answer, refused(15, 0));
 }
 

@@ -1,7 +1,6 @@
 //! "Slips a good programmer would make": days on which each of them gives a wrong figure.
 
-mod common;
-use common::*;
+use crate::common::*;
 
 /// Undoing forward, each write to its own before, would leave item 0 at 20: 1's write goes back
 /// to 10, then 2's write goes back to 20, which is bad 1's amount.

@@ -1,6 +1,7 @@
 //! Journals written by hand, and short forms of the calls.
-#![allow(dead_code)]
 
+use crate::CALLS;
+use plain::compare::{Implementation, Repair};
 use plain::{Refusal, Undone};
 
 /// The example of document 01, "The program's day", byte for byte.
@@ -123,37 +124,21 @@ pub fn counts(surviving: u32, undone: u32, aborted: u32, bytes: u64) -> Undone {
     }
 }
 
-/// An accepted undo: the answer, the table left, the numbers marked 2 and those marked 1, and
-/// the repaired journal. Checks that nothing behind the repaired journal was written.
-pub struct Repair {
-    pub answer: Undone,
-    pub table: Vec<i32>,
-    pub undone: Vec<u16>,
-    pub surviving: Vec<u16>,
-    pub repaired: Vec<u8>,
+pub fn start(journal: &mut [u8], items: u32) -> Result<(), Refusal> {
+    CALLS.start(journal, items)
 }
 
+pub fn check(journal: &[u8], table: &[i32]) -> Result<u32, Refusal> {
+    CALLS.check(journal, table)
+}
+
+pub fn chain(journal: &[u8], transaction: u16, lsns: &mut [u32]) -> Result<u32, Refusal> {
+    CALLS.chain(journal, transaction, lsns)
+}
+
+/// An undo that is accepted.
 pub fn repair(journal: &[u8], table: &[i32], bad: &[u16]) -> Repair {
-    let mut table = table.to_vec();
-    let mut status = [0xAA; 1_025];
-    let mut out = vec![0xAA; 64_020];
-    let answer = plain::undo(journal, &mut table, bad, &mut status, &mut out).unwrap();
-    let bytes = answer.bytes as usize;
-    assert!(out[bytes..].iter().all(|&b| b == 0xAA));
-    assert!(status.iter().all(|&state| state <= 2));
-    let with_state = |state: u8| {
-        (0..1_025u16)
-            .filter(|&t| status[t as usize] == state)
-            .collect()
-    };
-    out.truncate(bytes);
-    Repair {
-        answer,
-        table,
-        undone: with_state(2),
-        surviving: with_state(1),
-        repaired: out,
-    }
+    plain::compare::repair(&CALLS, journal, table, bad)
 }
 
 /// The refusal of an undo with a status vector and output buffer that fit.
@@ -161,7 +146,9 @@ pub fn undo_refusal(journal: &[u8], table: &[i32], bad: &[u16]) -> Refusal {
     let mut left = table.to_vec();
     let mut status = [0xAA; 1_025];
     let mut out = vec![0xAA; 64_020];
-    let refusal = plain::undo(journal, &mut left, bad, &mut status, &mut out).unwrap_err();
+    let refusal = CALLS
+        .undo(journal, &mut left, bad, &mut status, &mut out)
+        .unwrap_err();
     assert_eq!(left, table);
     assert!(status.iter().chain(&out).all(|&b| b == 0xAA));
     refusal
@@ -184,7 +171,7 @@ pub fn append(journal: &[u8], table: &[i32], line: Line) -> Result<(Vec<u8>, Vec
     let mut left = table.to_vec();
     let mut counts = counts_of(journal);
     let before = (bytes.clone(), left.clone(), counts);
-    let answer = plain::append(
+    let answer = CALLS.append(
         &mut bytes,
         &mut left,
         &mut counts,

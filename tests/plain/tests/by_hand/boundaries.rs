@@ -1,91 +1,8 @@
-//! Both sides of every number of document 01, and each field of head and records.
+//! Each field of head and records, each refusal by hand, and days at the limits of the layout.
 
-mod common;
-use common::*;
-use plain::{chain, check, report, start};
-
-#[test]
-fn nineteen_and_twenty_bytes() {
-    let head = journal(1, &[]);
-    assert_eq!(check(&head[..19], &[0]), refused(1, 0));
-    assert_eq!(check(&head, &[0]), Ok(0));
-    assert_eq!(check(&[], &[0]), refused(1, 0));
-    assert_eq!(chain(&head[..19], 1, &mut []), refused(1, 0));
-    assert_eq!(chain(&head, 1, &mut []), refused(12, 0));
-    assert_eq!(report(&head[..19], &[0; 4], &[]), b"REFUSED 1 0\n");
-    assert_eq!(
-        report(&head, &[0; 4], &[]),
-        b"JOURNAL 0 COPY 0\nEND 0 0 0\n"
-    );
-    let mut table = [0];
-    let mut by_kind = [0; 4];
-    let answer = plain::append(
-        &mut head[..19].to_vec(),
-        &mut table,
-        &mut by_kind,
-        1,
-        1,
-        0,
-        0,
-    );
-    assert_eq!(answer, refused(1, 0));
-}
-
-#[test]
-fn start_lengths_and_item_counts() {
-    for (length, items, expected) in [
-        (0, 1, refused(1, 0)),
-        (19, 1, refused(1, 0)),
-        (19, 0, refused(1, 0)),
-        (20, 0, refused(2, 0)),
-        (20, 1, Ok(())),
-        (20, 1_024, Ok(())),
-        (20, 1_025, refused(2, 0)),
-        (20, u32::MAX, refused(2, 0)),
-        (41, 2, Ok(())),
-    ] {
-        let mut bytes = vec![0xAA; length];
-        assert_eq!(start(&mut bytes, items), expected);
-        if expected.is_ok() {
-            assert_eq!(bytes[..20], journal(items, &[]));
-            assert!(bytes[20..].iter().all(|&b| b == 0xAA));
-        } else {
-            assert!(bytes.iter().all(|&b| b == 0xAA));
-        }
-    }
-}
-
-#[test]
-fn whole_length() {
-    assert_eq!(check(&EXAMPLE[..239], &EXAMPLE_TABLE), refused(1, 0));
-    assert_eq!(check(&EXAMPLE[..240], &EXAMPLE_TABLE), Ok(0));
-    assert_eq!(check(&EXAMPLE[..20], &EXAMPLE_TABLE), refused(1, 0));
-}
-
-#[test]
-fn record_count_3200_and_3201() {
-    let mut lines = vec![read(1_024, 1_023); 3_199];
-    lines.push(commit(1_024));
-    let full = journal(1_024, &lines);
-    assert_eq!(full.len(), 64_020);
-    assert_eq!(check(&full, &[7; 1_024]), Ok(0));
-    lines.push(commit(1));
-    let over = journal(1_024, &lines);
-    assert_eq!(check(&over, &[7; 1_024]), refused(2, 0));
-    assert_eq!(check(&over[..20], &[]), refused(2, 0));
-    assert_eq!(chain(&over, 1, &mut []), refused(2, 0));
-    let mut claimed = full.clone();
-    set4(&mut claimed, 0, 4, 3_201);
-    assert_eq!(check(&claimed, &[7; 1_024]), refused(2, 0));
-    let mut lsns = [0; 3_200];
-    assert_eq!(chain(&full, 1_024, &mut lsns), Ok(3_200));
-    assert!(lsns.iter().copied().eq(1..=3_200));
-    let table = [0; 4_096];
-    assert_eq!(
-        report(&full, &table, &[0, 4]),
-        b"JOURNAL 3200 COPY 0\nBACK 1024\nEND 0 1 0\n"
-    );
-}
+use crate::common::*;
+use crate::{report, CALLS};
+use plain::compare::Implementation;
 
 #[test]
 fn full_journal_of_1024_transactions() {
@@ -109,76 +26,6 @@ fn full_journal_of_1024_transactions() {
     let none = repair(&full, &[0], &[]);
     assert_eq!(none.answer, counts(1_024, 0, 0, 64_020));
     assert_eq!(none.repaired, full);
-}
-
-#[test]
-fn transaction_numbers() {
-    for (transaction, expected) in [
-        (0, refused(4, 1)),
-        (1, Ok(1)),
-        (1_024, Ok(1)),
-        (1_025, refused(4, 1)),
-        (u16::MAX, refused(4, 1)),
-    ] {
-        let bytes = journal(1, &[read(transaction, 0)]);
-        assert_eq!(check(&bytes, &[0]), expected);
-    }
-    let head = journal(1, &[]);
-    assert_eq!(append_refusal(&head, &[0], read(0, 0)), (4, 1));
-    assert!(append(&head, &[0], read(1, 0)).is_ok());
-    assert!(append(&head, &[0], read(1_024, 0)).is_ok());
-    assert_eq!(append_refusal(&head, &[0], read(1_025, 0)), (4, 1));
-    assert_eq!(append_refusal(&head, &[0], read(u16::MAX, 0)), (4, 1));
-}
-
-#[test]
-fn item_counts() {
-    for (items, expected) in [
-        (0, refused(2, 0)),
-        (1, Ok(0)),
-        (1_024, Ok(0)),
-        (1_025, refused(2, 0)),
-        (u32::MAX, refused(2, 0)),
-    ] {
-        let table = vec![0; items.min(2_000) as usize];
-        assert_eq!(check(&journal(items, &[]), &table), expected);
-    }
-}
-
-#[test]
-fn table_lengths() {
-    let head = journal(3, &[]);
-    for length in 0..6 {
-        let expected = if length == 3 { Ok(0) } else { refused(3, 0) };
-        assert_eq!(check(&head, &vec![0; length]), expected);
-    }
-}
-
-#[test]
-fn item_numbers() {
-    for (item, expected) in [
-        (2, Ok(1)),
-        (3, refused(4, 1)),
-        (65_536, refused(4, 1)),
-        (u32::MAX, refused(4, 1)),
-    ] {
-        assert_eq!(check(&journal(3, &[read(1, item)]), &[0; 3]), expected);
-        let lines = [read(1, 0), write(1, item, 0, 0)];
-        let blind_or_outside = if item == 2 { 8 } else { 4 };
-        assert_eq!(
-            check(&journal(3, &lines), &[0; 3]),
-            refused(blind_or_outside, 2)
-        );
-    }
-    let head = journal(3, &[]);
-    assert!(append(&head, &[0; 3], read(1, 2)).is_ok());
-    assert_eq!(append_refusal(&head, &[0; 3], read(1, 3)), (4, 1));
-    assert_eq!(append_refusal(&head, &[0; 3], write(1, 3, 0, 1)), (4, 1));
-    assert_eq!(append_refusal(&head, &[0; 3], read(1, u32::MAX)), (4, 1));
-    let full_items = journal(1_024, &[read(1, 1_023)]);
-    assert_eq!(check(&full_items, &[0; 1_024]), Ok(1));
-    let outside = journal(1_024, &[read(1, 1_024)]);
-    assert_eq!(check(&outside, &[0; 1_024]), refused(4, 1));
 }
 
 #[test]
@@ -250,34 +97,6 @@ fn every_byte_of_next() {
 }
 
 #[test]
-fn status_lengths() {
-    for (length, accepted) in [
-        (0, false),
-        (1_024, false),
-        (1_025, true),
-        (1_026, false),
-        (2_050, false),
-    ] {
-        let mut table = EXAMPLE_TABLE;
-        let mut status = vec![0xAA; length];
-        let mut out = [0xAA; 80];
-        let answer = plain::undo(&EXAMPLE, &mut table, &[1], &mut status, &mut out);
-        if accepted {
-            assert_eq!(answer, Ok(counts(1, 2, 0, 80)));
-            let mut expected = [0; 1_025];
-            expected[1] = 2;
-            expected[2] = 2;
-            expected[3] = 1;
-            assert_eq!(status, expected);
-        } else {
-            assert_eq!(answer, refused(13, 0));
-            assert_eq!(table, EXAMPLE_TABLE);
-            assert!(status.iter().chain(&out).all(|&b| b == 0xAA));
-        }
-    }
-}
-
-#[test]
 fn extreme_amounts() {
     for amount in [i32::MIN, -32_769, -32_768, 32_767, 32_768, i32::MAX] {
         let opposite = !amount;
@@ -334,7 +153,7 @@ fn room_behind_the_journal() {
         let mut table = EXAMPLE_TABLE;
         let mut by_kind = [4, 4, 3, 0];
         let lent = bytes.clone();
-        let answer = plain::append(&mut bytes, &mut table, &mut by_kind, 4, 4, 0, 0);
+        let answer = CALLS.append(&mut bytes, &mut table, &mut by_kind, 4, 4, 0, 0);
         assert_eq!(answer, expected);
         assert_eq!(table, EXAMPLE_TABLE);
         if expected.is_ok() {
@@ -370,7 +189,7 @@ fn records_3199_and_3200_in_append() {
     assert_eq!(append_refusal(&full, &table, blind), (7, 3_201));
     let mut by_kind = counts_of(&full);
     by_kind[0] += 1;
-    let answer = plain::append(
+    let answer = CALLS.append(
         &mut full.clone(),
         &mut table.clone(),
         &mut by_kind,
@@ -389,24 +208,6 @@ fn blind_append_to_a_full_journal() {
         append_refusal(&full, &[0, 0], write(1, 1, 0, 0)),
         (8, 3_201)
     );
-}
-
-#[test]
-fn counts_off_by_one() {
-    for kind in 0..4 {
-        for change in [1, u32::MAX] {
-            let mut bytes = EXAMPLE.to_vec();
-            bytes.extend([0xAA; 20]);
-            let mut table = EXAMPLE_TABLE;
-            let mut by_kind = [4, 4, 3, 0];
-            by_kind[kind] = u32::wrapping_add(by_kind[kind], change);
-            let lent = (bytes.clone(), by_kind);
-            let answer = plain::append(&mut bytes, &mut table, &mut by_kind, 1, 4, 0, 0);
-            assert_eq!(answer, refused(15, 0));
-            assert_eq!((bytes, by_kind), lent);
-            assert_eq!(table, EXAMPLE_TABLE);
-        }
-    }
 }
 
 #[test]
@@ -511,4 +312,21 @@ fn active_gives_the_lowest_number() {
     assert_eq!(check(&bytes, &[0]), Ok(3));
     let refusal = undo_refusal(&bytes, &[0], &[99]);
     assert_eq!((refusal.number, refusal.place), (11, 5));
+}
+
+/// All calls take any bytes and lengths; here every length of noise and of a cut example.
+#[test]
+fn any_bytes_are_answered() {
+    for length in 0..=240 {
+        let expected = if length < 240 { refused(1, 0) } else { Ok(0) };
+        assert_eq!(check(&EXAMPLE[..length], &EXAMPLE_TABLE), expected);
+        for value in [0, 1, 2, 3, 4, 255] {
+            let mut journal = vec![value; length];
+            assert!(check(&journal, &[0]).is_err());
+            let answer = CALLS.undo(&journal, &mut [0], &[1], &mut [0; 1_025], &mut [0; 99]);
+            assert!(answer.is_err());
+            let answer = CALLS.append(&mut journal, &mut [], &mut [0; 4], 9, 9, 9, 9);
+            assert!(answer.is_err());
+        }
+    }
 }

@@ -1,8 +1,8 @@
 //! "Days to try" of document 01, with values written by hand.
 
-mod common;
-use common::*;
-use plain::{chain, check, report, start};
+use crate::common::*;
+use crate::{report, CALLS};
+use plain::compare::Implementation;
 
 const TABLE_FILE: [u8; 12] = [0x40, 0x01, 0, 0, 0, 0, 0, 0, 0x9C, 0x04, 0, 0];
 
@@ -215,7 +215,7 @@ fn output_of_79_and_80_bytes() {
         let mut table = EXAMPLE_TABLE;
         let mut status = [0xAA; 1_025];
         let mut out = vec![0xAA; length];
-        let answer = plain::undo(&EXAMPLE, &mut table, &[1], &mut status, &mut out);
+        let answer = CALLS.undo(&EXAMPLE, &mut table, &[1], &mut status, &mut out);
         if length < 80 {
             assert_eq!(answer, refused(14, 0));
             assert_eq!(table, EXAMPLE_TABLE);
@@ -263,7 +263,7 @@ fn example_appended() {
         (3, 3, 0, 0),
     ];
     for (kind, transaction, item, after) in appends {
-        let answer = plain::append(
+        let answer = CALLS.append(
             &mut bytes,
             &mut table,
             &mut by_kind,
