@@ -28,7 +28,7 @@ use Rattle.journal.specs.Calls.{link, extended}
 use Rattle.journal.proofs.Records.{txOf-opOf, tagOf-opOf, history-zero, history-suc}
 use Rattle.journal.proofs.Stored.{stored-fits, length-link}
 use Rattle.journal.proofs.Unrefused.{formed-cases}
-use Rattle.validate.proofs.Found.{latest-found, found-bound}
+use Rattle.rules.proofs.Found.{latest-found, found-bound}
 use Rattle.append.specs.Entries.{restoredBy}
 
 -- ---- the last record of a transaction

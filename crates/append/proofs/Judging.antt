@@ -20,13 +20,15 @@ use Rattle.journal.specs.Calls.{Answer, refused, accepted, answered}
 use Rattle.journal.proofs.Clear.{decide-clear}
 use Rattle.journal.proofs.Checked.{clear-checks}
 use Rattle.journal.proofs.Unrefused.{settled-amount, formed-cases, opOf-read, opOf-write, opOf-commit, opOf-abort}
-use Rattle.validate.specs.declared.Headed.{Headed}
-use Rattle.validate.specs.declared.Headed.the-variants as headed
-use Rattle.validate.specs.declared.Verdict.{Verdict}
-use Rattle.validate.specs.declared.Verdict.the-variants as verdict
-use Rattle.validate.specs.Answers.{Size, headerOf, verdictOf, ruleOrder}
-use Rattle.validate.specs.Arrays.{Ready, State}
-use Rattle.validate.proofs.OrderLaws.{decide-append, decide-try}
+use Rattle.journal.proofs.OrdersLaws.{decide-append}
+use Rattle.fields.specs.declared.Headed.{Headed}
+use Rattle.fields.specs.declared.Headed.the-variants as headed
+use Rattle.fields.specs.Answers.{Size, headerOf}
+use Rattle.fields.proofs.OrderLaws.{decide-try}
+use Rattle.rules.specs.declared.Verdict.{Verdict}
+use Rattle.rules.specs.declared.Verdict.the-variants as verdict
+use Rattle.rules.specs.Answers.{verdictOf, ruleOrder}
+use Rattle.rules.specs.Arrays.{Ready, State}
 use Rattle.validate.proofs.Whole.{checked-ready}
 use Rattle.append.specs.Entries.{FromTable, Arrays, newOrder, entryOrder}
 
@@ -63,16 +65,16 @@ module _ (b : List ℕ) (n : ℕ) (r : Record) (e : n ≡ count b) where
       pub new-formed : malformed (items b) r ≡ false
       new-formed = not-true _ (rw (← k) (sym g ∙ z))
 
+      pub new-matched : (malformed (items b) r ≡ false → mismatched (whole b) (opOf (suc (count b)) r) ≡ false) → mismatched (history b n) (opOf (n + 1) r) ≡ false
+      unfolding whole
+      new-matched m = let i : suc (count b) ≡ n + 1 = omega arith in rw (i, ← e) at (m new-formed)
+
       module _ (m : malformed (items b) r ≡ false → mismatched (whole b) (opOf (suc (count b)) r) ≡ false)
           (v : Verdict) (q : verdictOf v ≡ decide (ruleOrder (history b n) (n + 1) (opOf (n + 1) r))) where
-        matched : mismatched (history b n) (opOf (n + 1) r) ≡ false
-        unfolding whole
-        matched = let i : suc (count b) ≡ n + 1 = omega arith in rw (i, ← e) at (m new-formed)
-
         rule-parts : verdictOf v ≡ orElse (orElse (orElse (cond (closed (history b n) (opOf (n + 1) r)) (at 6 (n + 1)) none)
             (cond (crossed (history b n) (opOf (n + 1) r)) (at 7 (n + 1)) none)) (cond (blind (history b n) (opOf (n + 1) r)) (at 8 (n + 1)) none)) none
         unfolding ruleOrder
-        rule-parts = q ∙ simp (decide-append, decide-try, matched)
+        rule-parts = q ∙ simp (decide-append, decide-try, new-matched m)
 
         rest : decide (newOrder b r) ≡ orElse (verdictOf v) (cond (noRoom b) (at 14 0) none)
         rest = rw (new-parts, new-formed, rule-parts) (join (cond (closed (history b n) (opOf (n + 1) r)) (at 6 (n + 1)) none) (cond (crossed (history b n) (opOf (n + 1) r)) (at 7 (n + 1)) none) (cond (blind (history b n) (opOf (n + 1) r)) (at 8 (n + 1)) none) _)
@@ -140,10 +142,10 @@ module _ (b : List ℕ) (t : List Amount) (c : Tally) (r : Record) (h : Headed) 
     pub plan-ready : Ready b n
     plan-ready = rw plan-counted (checked-ready b t (sized .0))
 
-    pub plan-arrays : (ends firsts writes bases reads links : List ℕ) → (decide (checkOrder b t) ≡ none → State b (count b) ends firsts writes bases reads links) → Arrays b n ends writes bases reads links
+    pub plan-arrays : (ends firsts writes bases reads links : List ℕ) → (decide (checkOrder b t) ≡ none → State b (count b) ends firsts writes bases reads links) → Arrays b n ends writes reads links
     plan-arrays ends firsts writes bases reads links s =
         let p = s (sized .0) in
-        rw plan-counted (record { ended = p .ended; written = p .written; based = p .based; sighted = p .sighted; linked = p .linked })
+        rw plan-counted (record { ended = p .ended; written = p .written; sighted = p .sighted; linked = p .linked })
 
     -- 9 does not arise for the new record
     pub plan-matched : FromTable t r → malformed (items b) r ≡ false → mismatched (whole b) (opOf (suc (count b)) r) ≡ false

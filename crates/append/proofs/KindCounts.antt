@@ -18,8 +18,8 @@ use Rattle.journal.specs.Refusals.{Tally, tallied, sameTally, wrongTally, noRoo
 use Rattle.journal.specs.Calls.{raised}
 use Rattle.journal.proofs.Records.{length-history, history-zero, history-suc}
 use Rattle.journal.proofs.Appending.{tallied-extended}
-use Rattle.validate.specs.Arrays.{Ready}
-use Rattle.validate.proofs.Found.{passed-right}
+use Rattle.rules.specs.Arrays.{Ready}
+use Rattle.rules.proofs.Found.{passed-right}
 use Rattle.append.specs.declared.Counts.{Counts}
 use Rattle.append.specs.Answers.{tallyOf, Few}
 

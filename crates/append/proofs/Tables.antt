@@ -26,8 +26,8 @@ use Rattle.journal.specs.Calls.{tableAfter}
 use Rattle.journal.proofs.Records.{history-zero, history-suc}
 use Rattle.journal.proofs.Unrefused.{formed-cases, opOf-read, opOf-write, opOf-commit, opOf-abort}
 use Rattle.journal.proofs.Appending.{length-tableAfter, amount-tableAfter}
-use Rattle.validate.specs.Arrays.{Ready}
-use Rattle.validate.proofs.Found.{passed-right}
+use Rattle.rules.specs.Arrays.{Ready}
+use Rattle.rules.proofs.Found.{passed-right}
 use Rattle.append.specs.Entries.{restoredBy}
 
 -- a table from its amounts

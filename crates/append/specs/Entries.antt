@@ -11,7 +11,7 @@ use Rattle.model.specs.History.{Amount}
 use Rattle.journal.specs.Journal.{count, items, txIn, opOf, history, whole, amountAt}
 use Rattle.journal.specs.Refusals.{Tally, malformed, closed, crossed, blind, noRoom, wrongTally}
 use Rattle.journal.specs.Orders.{Order, try}
-use Rattle.validate.specs.Arrays.{Ready, Linked, endsOf, writesOf, basesOf, readsOf}
+use Rattle.rules.specs.Arrays.{Ready, Linked, endsOf, writesOf, readsOf}
 use Rattle.append.specs.declared.Counts.{Counts}
 use Rattle.append.specs.Answers.{Few}
 
@@ -35,12 +35,11 @@ newOrder b r =
 unfoldable pub entryOrder : List ℕ → Tally → Record → Order
 entryOrder b c r = try 15 0 (wrongTally b c) ++ newOrder b r
 
--- ---- the working arrays after the first n records, first records aside
+-- ---- the working arrays after the first n records, as far as rules 6 to 8 ask
 
-pub record Arrays (b : List ℕ) (n : ℕ) (ends writes bases reads links : List ℕ) : Type 0 where
+pub record Arrays (b : List ℕ) (n : ℕ) (ends writes reads links : List ℕ) : Type 0 where
   pub ended : ends ≡ endsOf (history b n)
   pub written : writes ≡ writesOf (history b n)
-  pub based : bases ≡ basesOf (history b n)
   pub sighted : reads ≡ readsOf (history b n)
   pub linked : Linked b n links
 

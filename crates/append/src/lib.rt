@@ -12,10 +12,12 @@ ghost use Rattle.journal.specs.Journal.{count, items, txIn, opOf, history, whol
 ghost use Rattle.journal.specs.Refusals.{malformed, mismatched, noRoom, tallied, sameTally, wrongTally};
 ghost use Rattle.journal.specs.Orders.{decide, appendOrder};
 ghost use Rattle.journal.specs.Calls as calls;
-ghost use Rattle.validate.specs.Arrays.{Ready};
-ghost use Rattle.validate.specs.Answers.{verdictOf};
+ghost use Rattle.rules.specs.Arrays.{Ready};
+ghost use Rattle.rules.specs.Answers.{verdictOf};
 ghost use Rattle.append.specs.Answers.{tallyOf, answerOf, planOf, Few, Appends};
 ghost use Rattle.append.specs.Entries.{restoredBy, FromTable, Arrays, Admitted, newOrder, entryOrder};
+use fields::Headed;
+use fields::formed;
 use format::Key;
 use format::Lsn;
 use format::Record;
@@ -24,10 +26,8 @@ use format::kind_at;
 use format::record_at;
 use format::transaction_at;
 use journal::Reason;
-use validate::Headed;
-use validate::Verdict;
-use validate::formed;
-use validate::judge;
+use rules::Verdict;
+use rules::judge_added;
 use validate::verify;
 
 // Record counts by kind.
@@ -209,10 +209,14 @@ fn undo_write(journal: &[u8], i: usize, s: u16, table: &mut [i32])
     ensures { λ _. ⌜ now (table .exit) ≡ restoredBy s (recordAt (now (journal .entry)) i) (now (table .entry)) ⌝ }
 {
     let r = record_at(journal, i);
-    if r.kind == 2 {
-        if r.transaction.0 == s {
-            put_amount(table, r.item.0 as usize, r.before);
+    let kind = r.kind;
+    match kind {
+        2 => {
+            if r.transaction.0 == s {
+                put_amount(table, r.item.0 as usize, r.before);
+            }
         }
+        _ => {}
     }
 }
 
@@ -253,16 +257,15 @@ fn judge_new(
     keys: u32,
     ends: &[u8],
     writes: &[u32],
-    bases: &[u32],
     reads: &[u32],
     links: &[u32],
     r: Record,
 ) -> Verdict
-    requires { ⌜ Ready (now journal) n × (n ≡ count (now journal)) × (keys ≡ items (now journal)) × Arrays (now journal) n (now ends) (now writes) (now bases) (now reads) (now links) × (malformed (items (now journal)) r ≡ false → mismatched (whole (now journal)) (opOf (suc (count (now journal))) r) ≡ false) ⌝ }
+    requires { ⌜ Ready (now journal) n × (n ≡ count (now journal)) × (keys ≡ items (now journal)) × Arrays (now journal) n (now ends) (now writes) (now reads) (now links) × (malformed (items (now journal)) r ≡ false → mismatched (whole (now journal)) (opOf (suc (count (now journal))) r) ≡ false) ⌝ }
     ensures { λ v. ⌜ verdictOf v ≡ decide (newOrder (now (journal .entry)) r) ⌝ }
 {
     if formed(keys, r) {
-        let v = judge(journal, n, ends, writes, bases, reads, links, r);
+        let v = judge_added(journal, n, ends, writes, reads, links, r);
         let Verdict::Passed = v else {
             return v;
         };
@@ -284,26 +287,15 @@ fn judge_entry(
     counts: Counts,
     ends: &[u8],
     writes: &[u32],
-    bases: &[u32],
     reads: &[u32],
     links: &[u32],
     r: Record,
 ) -> Plan
-    requires { ⌜ Ready (now journal) n × (n ≡ count (now journal)) × (keys ≡ items (now journal)) × Arrays (now journal) n (now ends) (now writes) (now bases) (now reads) (now links) × (malformed (items (now journal)) r ≡ false → mismatched (whole (now journal)) (opOf (suc (count (now journal))) r) ≡ false) ⌝ }
+    requires { ⌜ Ready (now journal) n × (n ≡ count (now journal)) × (keys ≡ items (now journal)) × Arrays (now journal) n (now ends) (now writes) (now reads) (now links) × (malformed (items (now journal)) r ≡ false → mismatched (whole (now journal)) (opOf (suc (count (now journal))) r) ≡ false) ⌝ }
     ensures { λ p. ⌜ planOf p ≡ calls.answered (decide (entryOrder (now (journal .entry)) (tallyOf counts) r)) (count (now (journal .entry))) ⌝ }
 {
     if agrees(journal, n as usize, counts) {
-        let v = judge_new(
-            journal,
-            n as usize,
-            keys,
-            ends,
-            writes,
-            bases,
-            reads,
-            links,
-            r,
-        );
+        let v = judge_new(journal, n as usize, keys, ends, writes, reads, links, r);
         let Verdict::Refused(why) = v else {
             return Plan::Enter(n);
         };
@@ -340,18 +332,7 @@ fn prepare(journal: &[u8], table: &[i32], counts: Counts, r: Record) -> Plan
         };
         return Plan::Refused(why);
     };
-    judge_entry(
-        journal,
-        n,
-        keys,
-        counts,
-        &ends,
-        &writes,
-        &bases,
-        &reads,
-        &links,
-        r,
-    )
+    judge_entry(journal, n, keys, counts, &ends, &writes, &reads, &links, r)
 }
 
 // A write's before image comes from the table.

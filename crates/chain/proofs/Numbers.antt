@@ -22,7 +22,7 @@ use Rattle.journal.proofs.Clear.{decide-clear, clear-left, clear-right}
 use Rattle.journal.proofs.Checked.{Sound, clear-sound}
 use Rattle.journal.proofs.Records.{txOf-opOf, tagOf-opOf, length-history}
 use Rattle.journal.proofs.Unrefused.{chained-next, history-numbered}
-use Rattle.validate.proofs.Found.{Found, nothing, at, first-found}
+use Rattle.rules.proofs.Found.{Found, nothing, at, first-found}
 use Rattle.chain.specs.Visits.{numbersOf, Visits, Counts}
 use Rattle.chain.proofs.Steps.{walk-end, walk-step}
 

@@ -26,15 +26,16 @@ use Rattle.journal.proofs.Checked.{clear-sound}
 use Rattle.journal.proofs.Records.{txOf-opOf}
 use Rattle.journal.proofs.Unrefused.{sound-long}
 use Rattle.journal.proofs.Passing.{head-facts}
-use Rattle.validate.specs.declared.Headed.{Headed}
-use Rattle.validate.specs.declared.Headed.the-variants as headed
-use Rattle.validate.specs.declared.Verdict.{Verdict}
-use Rattle.validate.specs.declared.Verdict.the-variants as verdict
-use Rattle.validate.specs.Answers.{headerOf, verdictOf}
-use Rattle.validate.specs.Recent.{firstTag}
-use Rattle.validate.specs.Arrays.{Opened, Ready, State, firstsOf}
-use Rattle.validate.proofs.ArraysLaws.{firsts-at, length-firsts}
-use Rattle.validate.proofs.Found.{Found, nothing, at, first-found, found-none, found-bound, passed-range}
+use Rattle.fields.specs.declared.Headed.{Headed}
+use Rattle.fields.specs.declared.Headed.the-variants as headed
+use Rattle.fields.specs.Answers.{headerOf, Opened}
+use Rattle.rules.specs.declared.Verdict.{Verdict}
+use Rattle.rules.specs.declared.Verdict.the-variants as verdict
+use Rattle.rules.specs.Answers.{verdictOf}
+use Rattle.rules.specs.Recent.{firstTag}
+use Rattle.rules.specs.Arrays.{Ready, State, firstsOf}
+use Rattle.rules.proofs.ArraysLaws.{firsts-at, length-firsts}
+use Rattle.rules.proofs.Found.{Found, nothing, at, first-found, found-none, found-bound, passed-range}
 use Rattle.validate.proofs.Whole.{passed-ready}
 use Rattle.chain.specs.declared.Begun.{Begun}
 use Rattle.chain.specs.declared.Begun.the-variants as begun

@@ -6,14 +6,15 @@ ghost use lib.ListN.{length};
 ghost use Rattle.journal.specs.Journal.{count, whole};
 ghost use Rattle.journal.specs.Orders.{decide, openOrder};
 ghost use Rattle.journal.specs.Calls as calls;
-ghost use Rattle.validate.specs.Recent.{firstTag};
-ghost use Rattle.validate.specs.Arrays.{Opened, Ready};
+ghost use Rattle.fields.specs.Answers.{Opened};
+ghost use Rattle.rules.specs.Recent.{firstTag};
+ghost use Rattle.rules.specs.Arrays.{Ready};
 ghost use Rattle.chain.specs.Answers.{answerOf, begunOf, firstIn, firstOrder};
+use fields::Headed;
+use fields::header;
 use format::next_at;
 use journal::Reason;
-use validate::Headed;
-use validate::Verdict;
-use validate::header;
+use rules::Verdict;
 use validate::records;
 
 // How many records were visited. specs/Answers.antt gives document 01's answer for each case.

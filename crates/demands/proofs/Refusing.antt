@@ -405,28 +405,29 @@ lowest-place =
 
 -- ---- marks and paper that always do
 
-unsound-low : {b : List ℕ} (n p : ℕ) → Unsound b n p → n ≤ 12
-unsound-low _ _ (by-short _) = omega arith
-unsound-low _ _ (by-torn _) = omega arith
-unsound-low _ _ (by-head _) = omega arith
-unsound-low _ _ (by-smudge _ _ _) = omega arith
-unsound-low _ _ (by-chain _ _ _) = omega arith
-unsound-low _ _ (by-closed _ _) = omega arith
-unsound-low _ _ (by-crossed _ _) = omega arith
-unsound-low _ _ (by-blind _ _) = omega arith
-unsound-low _ _ (by-before _ _) = omega arith
+-- which refusals have which numbers
+unsound-number : {b : List ℕ} {n p : ℕ} → Unsound b n p → n ≤ 9
+unsound-number (by-short h) = omega arith
+unsound-number (by-torn h) = omega arith
+unsound-number (by-head h) = omega arith
+unsound-number (by-smudge l u h) = omega arith
+unsound-number (by-chain l u h) = omega arith
+unsound-number (by-closed u h) = omega arith
+unsound-number (by-crossed u h) = omega arith
+unsound-number (by-blind u h) = omega arith
+unsound-number (by-before u h) = omega arith
 
-unpassed-low : {b : List ℕ} {t : List Amount} (n p : ℕ) → Unpassed b t n p → n ≤ 12
-unpassed-low n p (by-unsound u) = unsound-low n p u
-unpassed-low _ _ (by-table _) = omega arith
-unpassed-low _ _ (by-close _ _) = omega arith
+pub unpassed-number : {b : List ℕ} {t : List Amount} {n p : ℕ} → Unpassed b t n p → n ≤ 10
+unpassed-number (by-unsound u) = omega (arith, unsound-number u)
+unpassed-number (by-table h) = omega arith
+unpassed-number (by-close l h) = omega arith
 
 module _ (b : List ℕ) (t : List Amount) (bad status out : List ℕ) where
   abbrev Low : ℕ → ℕ → Type 0
   Low n p = n ≤ 12
 
   check-low : All (Means Low) (checkOrder b t)
-  check-low = means-more unpassed-low (check-means b t)
+  check-low = means-more (λ n p u. omega (arith, unpassed-number u)) (check-means b t)
 
   -- the copy has no more records than the journal
   copy-fits : badHead b ≡ false → 64020 ≤ length out → tooShort out (length (copy bad b)) ≡ true → ⊥

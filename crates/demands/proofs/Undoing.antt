@@ -31,8 +31,8 @@ use Rattle.journal.proofs.Checked.{Sound, Checks}
 use Rattle.journal.proofs.Passing.{malformed-tx}
 use Rattle.demands.specs.Days.{accepts, Day}
 use Rattle.demands.specs.Undoing.{Accepting, Acceptance, CopyFits, NeverShort, copyIn, LeftPasses, markOf, UndoSet, LeastSet, FewestSales, Fewest}
-use Rattle.demands.specs.Refusing.{Unsound, by-short, by-torn, by-head, by-smudge, by-chain, by-closed, by-crossed, by-blind, by-before, Unpassed, by-unsound, by-table, by-close, Untaken, unpassed-undo, by-open, by-marks, by-unknown, by-paper}
-use Rattle.demands.proofs.Refusing.{only-under}
+use Rattle.demands.specs.Refusing.{Untaken, unpassed-undo, by-open, by-marks, by-unknown, by-paper}
+use Rattle.demands.proofs.Refusing.{only-under, unpassed-number}
 use Rattle.demands.proofs.Left.{legal-day, copy-few, copy-length, copy-bytes, copy-checks, copy-openingTable, copy-ended, copy-count}
 use Rattle.demands.proofs.DaysLaws.{pass-checks, checks-pass}
 use Rattle.demands.proofs.Undone.{clear-accepting, accepting-clear, undo-accepts, undo-answer, undo-table, undo-status, undo-copy, undo-behind, accepted-clear}
@@ -66,23 +66,7 @@ pub copy-fits : CopyFits
 copy-fits b t bad d =
     let k = pass-checks b t (d .pass) in omega (arith, copy-length b t (d .bytes) k bad, copy-few b t (d .bytes) k bad)
 
--- which refusals have which numbers
-unsound-number : {b : List ℕ} {n p : ℕ} → Unsound b n p → n ≤ 9
-unsound-number (by-short h) = omega arith
-unsound-number (by-torn h) = omega arith
-unsound-number (by-head h) = omega arith
-unsound-number (by-smudge l u h) = omega arith
-unsound-number (by-chain l u h) = omega arith
-unsound-number (by-closed u h) = omega arith
-unsound-number (by-crossed u h) = omega arith
-unsound-number (by-blind u h) = omega arith
-unsound-number (by-before u h) = omega arith
-
-unpassed-number : {b : List ℕ} {t : List Amount} {n p : ℕ} → Unpassed b t n p → n ≤ 10
-unpassed-number (by-unsound u) = omega (arith, unsound-number u)
-unpassed-number (by-table h) = omega arith
-unpassed-number (by-close l h) = omega arith
-
+-- what refuses take-back by 14
 untaken-14 : {b : List ℕ} {t : List Amount} {bad status out : List ℕ} {n p : ℕ} → Untaken b t bad status out n p → n ≡ 14 → tooShort out (length (copy bad b)) ≡ true
 untaken-14 (unpassed-undo u) e = absurd (omega (arith, unpassed-number u))
 untaken-14 (by-open l u h) e = absurd (omega arith)

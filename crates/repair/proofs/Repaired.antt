@@ -19,8 +19,8 @@ use Rattle.journal.specs.Calls.{openingAt, tableLeft, statuses}
 use Rattle.journal.proofs.Records.{length-history}
 use Rattle.journal.proofs.Encoded.{length-journalOf}
 use Rattle.journal.proofs.Unrefused.{chained-next, history-numbered}
-use Rattle.validate.specs.Arrays.{Ready}
-use Rattle.validate.proofs.Found.{passed-right}
+use Rattle.rules.specs.Arrays.{Ready}
+use Rattle.rules.proofs.Found.{passed-right}
 use Rattle.trace.specs.Codes.{coded}
 use Rattle.trace.proofs.UndoSet.{coded-surviving}
 use Rattle.repair.specs.Copying.{rank, Ranked, moved, movedAll, copyBytes, copyWith}

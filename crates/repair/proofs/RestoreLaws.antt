@@ -27,10 +27,10 @@ use Rattle.model.specs.Undo.{replayed}
 use Rattle.journal.specs.Journal.{items, txIn, opOf, history, amountAt}
 use Rattle.journal.specs.Refusals.{malformed}
 use Rattle.journal.proofs.Records.{history-zero, history-suc}
-use Rattle.validate.specs.Arrays.{Ready}
-use Rattle.validate.proofs.ArraysLaws.{getD-of, tabulate-zeros, tabulate-same, op-write}
-use Rattle.validate.proofs.Found.{passed-right}
-use Rattle.validate.proofs.RuleLaws.{item-write}
+use Rattle.rules.specs.Arrays.{Ready}
+use Rattle.rules.proofs.ArraysLaws.{getD-of, tabulate-zeros, tabulate-same, op-write}
+use Rattle.rules.proofs.Found.{passed-right}
+use Rattle.rules.proofs.RuleLaws.{item-write}
 use Rattle.trace.specs.Codes.{coded}
 use Rattle.repair.specs.Restoring.{seenOf, leftAfter, openedAt, tableWrite, tableAfter, seenAfter}
 use Rattle.trace.proofs.CodesLaws.{tabulate-put}

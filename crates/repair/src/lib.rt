@@ -7,7 +7,7 @@ ghost use lib.ListN.{length, getD, set};
 ghost use Rattle.lists.specs.Tables.{number, store};
 ghost use Rattle.format.specs.Layout.{recordAt};
 ghost use Rattle.journal.specs.Journal.{opOf, history};
-ghost use Rattle.validate.specs.Arrays.{Ready};
+ghost use Rattle.rules.specs.Arrays.{Ready};
 ghost use Rattle.trace.specs.Codes.{coded};
 ghost use Rattle.repair.specs.Copying.{Ranked, copyBytes, copyWith, copyStep};
 ghost use Rattle.repair.specs.Restoring.{leftAfter, openedAt, tableWrite, tableAfter, seenAfter};
@@ -175,17 +175,20 @@ fn restore_record(journal: &[u8], n: usize, fates: &[u8], seen: &mut [u8], table
     let r = record_at(journal, n + 1);
     let x = r.item.0 as usize;
     let kind = r.kind;
-    if kind == 2 {
-        restore_write(
-            fates,
-            seen,
-            wide(r.transaction.0),
-            x,
-            r.before,
-            r.after,
-            table,
-        );
-        set_code(seen, x, 1);
+    match kind {
+        2 => {
+            restore_write(
+                fates,
+                seen,
+                wide(r.transaction.0),
+                x,
+                r.before,
+                r.after,
+                table,
+            );
+            set_code(seen, x, 1);
+        }
+        _ => {}
     }
 }
 

@@ -14,7 +14,7 @@ use Rattle.lists.specs.Search.{member}
 use Rattle.lists.specs.Tables.{tabulate, number}
 use Rattle.lists.proofs.BoolLaws.{byCases}
 use Rattle.lists.proofs.TablesLaws.{length-tabulate, getD-tabulate, tabulate-ext, tabulate-getD, number-zero, number-last, number-bound}
-use Rattle.validate.proofs.ArraysLaws.{getD-of, tabulate-zeros}
+use Rattle.rules.proofs.ArraysLaws.{getD-of, tabulate-zeros}
 use Rattle.trace.specs.Codes.{coded, partly, flagsOf, fateOf, fatesOf}
 
 -- ---- behind the end

@@ -19,10 +19,10 @@ use Rattle.model.proofs.Strict.{legal-closed}
 use Rattle.model.proofs.Opening.{Passing, Passes, start, step}
 use Rattle.journal.specs.Journal.{txIn, opOf, history}
 use Rattle.journal.proofs.Records.{txOf-opOf, history-suc}
-use Rattle.validate.specs.Recent.{endCode}
-use Rattle.validate.specs.Arrays.{Ready, endsOf}
-use Rattle.validate.proofs.Found.{passed-range, passing-history}
-use Rattle.validate.proofs.ArraysLaws.{ends-at, length-ends}
+use Rattle.rules.specs.Recent.{endCode}
+use Rattle.rules.specs.Arrays.{Ready, endsOf}
+use Rattle.rules.proofs.Found.{passed-range, passing-history}
+use Rattle.rules.proofs.ArraysLaws.{ends-at, length-ends}
 use Rattle.trace.specs.Codes.{coded}
 
 pub passing-ends : {p : History} → Passing p → EndsLast p

@@ -21,10 +21,10 @@ use Rattle.model.specs.Undo.{writeBy}
 use Rattle.journal.specs.Journal.{items, txIn, opOf, history}
 use Rattle.journal.proofs.Records.{txOf-opOf, history-zero, history-suc}
 use Rattle.journal.specs.Refusals.{malformed}
-use Rattle.validate.specs.Arrays.{Ready}
-use Rattle.validate.proofs.Found.{Found, nothing, at, latest-found, passed-right, passed-range}
-use Rattle.validate.proofs.RuleLaws.{item-read}
-use Rattle.validate.proofs.ArraysLaws.{getD-of, tabulate-zeros, tabulate-same, op-read, op-write}
+use Rattle.rules.specs.Arrays.{Ready}
+use Rattle.rules.proofs.Found.{Found, nothing, at, latest-found, passed-right, passed-range}
+use Rattle.rules.proofs.RuleLaws.{item-read}
+use Rattle.rules.proofs.ArraysLaws.{getD-of, tabulate-zeros, tabulate-same, op-read, op-write}
 use Rattle.trace.specs.Codes.{coded, flagsOf}
 use Rattle.trace.specs.Trace.{writerIn, feeder, feedersOf, traced, flagsRead, feedersWrite, flagsAfter, feedersAfter}
 use Rattle.trace.proofs.CodesLaws.{tabulate-put, flags-start, flags-more, flag-member, length-flags}

@@ -25,9 +25,9 @@ use Rattle.model.proofs.Opening.{opening, legal-passing}
 use Rattle.model.proofs.Extension.{legal-at}
 use Rattle.journal.specs.Journal.{history, whole, count}
 use Rattle.journal.specs.Calls.{statusOf, statuses}
-use Rattle.validate.specs.Arrays.{Ready, endsOf}
-use Rattle.validate.proofs.Found.{passing-history}
-use Rattle.validate.proofs.ArraysLaws.{getD-of}
+use Rattle.rules.specs.Arrays.{Ready, endsOf}
+use Rattle.rules.proofs.Found.{passing-history}
+use Rattle.rules.proofs.ArraysLaws.{getD-of}
 use Rattle.trace.specs.Codes.{coded, flagsOf, fateOf, fatesOf}
 use Rattle.trace.specs.Trace.{writerIn, feeder, traced}
 use Rattle.trace.proofs.CodesLaws.{flag-member, length-fates}

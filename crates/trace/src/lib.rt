@@ -5,7 +5,7 @@ ghost use lib.ListN.{length, getD, set};
 ghost use Rattle.format.specs.Layout.{recordAt};
 ghost use Rattle.journal.specs.Journal.{opOf, history};
 ghost use Rattle.journal.specs.Calls.{statuses};
-ghost use Rattle.validate.specs.Arrays.{Ready, endsOf};
+ghost use Rattle.rules.specs.Arrays.{Ready, endsOf};
 ghost use Rattle.trace.specs.Codes.{coded, flagsOf, fateOf, fatesOf};
 ghost use Rattle.trace.specs.Trace.{traced, flagsRead, feedersWrite, flagsAfter, feedersAfter};
 use format::record_at;

@@ -19,13 +19,14 @@ use Rattle.journal.specs.Orders.{Refusal, try, decide, checkOrder}
 use Rattle.journal.specs.Calls.{refused, accepted, answered}
 use Rattle.journal.proofs.OrdersLaws.{decide-yes, decide-no, decide-append-none, decide-append-some}
 use Rattle.journal.proofs.Records.{history-zero}
-use Rattle.validate.specs.declared.Headed.{Headed}
-use Rattle.validate.specs.declared.Headed.the-variants as headed
-use Rattle.validate.specs.declared.Verdict.{Verdict}
-use Rattle.validate.specs.declared.Verdict.the-variants as verdict
-use Rattle.validate.specs.Answers.{Size, sizeOf, headerOf, verdictOf, refusalOf}
-use Rattle.validate.specs.Arrays.{State, endsOf}
-use Rattle.validate.proofs.ArraysLaws.{ends-start}
+use Rattle.fields.specs.declared.Headed.{Headed}
+use Rattle.fields.specs.declared.Headed.the-variants as headed
+use Rattle.fields.specs.Answers.{Size, sizeOf, headerOf}
+use Rattle.rules.specs.declared.Verdict.{Verdict}
+use Rattle.rules.specs.declared.Verdict.the-variants as verdict
+use Rattle.rules.specs.Answers.{verdictOf, refusalOf}
+use Rattle.rules.specs.Arrays.{State, endsOf}
+use Rattle.rules.proofs.ArraysLaws.{ends-start}
 use Rattle.validate.proofs.Pass.{state-start}
 use Rattle.validate.proofs.Final.{active-at}
 use Rattle.validate.proofs.Whole.{check-clear, checked-ready}

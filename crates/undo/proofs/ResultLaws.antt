@@ -23,11 +23,12 @@ use Rattle.journal.specs.Calls as calls
 use Rattle.journal.specs.Calls.{Answer, refused, accepted, answered, statuses}
 use Rattle.journal.proofs.OrdersLaws.{decide-yes, decide-no, decide-append}
 use Rattle.journal.proofs.Clear.{decide-clear, clear-left, try-clear}
-use Rattle.validate.specs.declared.Headed.{Headed}
-use Rattle.validate.specs.declared.Headed.the-variants as headed
-use Rattle.validate.specs.declared.Verdict.{Verdict}
-use Rattle.validate.specs.declared.Verdict.the-variants as verdict
-use Rattle.validate.specs.Answers.{sizeOf, headerOf, verdictOf, refusalOf}
+use Rattle.fields.specs.declared.Headed.{Headed}
+use Rattle.fields.specs.declared.Headed.the-variants as headed
+use Rattle.fields.specs.Answers.{sizeOf, headerOf}
+use Rattle.rules.specs.declared.Verdict.{Verdict}
+use Rattle.rules.specs.declared.Verdict.the-variants as verdict
+use Rattle.rules.specs.Answers.{verdictOf, refusalOf}
 use Rattle.trace.specs.Codes.{coded}
 use Rattle.trace.proofs.Ends.{coded-committed, coded-aborted}
 use Rattle.trace.proofs.UndoSet.{coded-surviving, coded-undone}

@@ -14,8 +14,8 @@ use Rattle.lists.specs.Tables.{each}
 use Rattle.lists.proofs.TablesLaws.{each-zero, each-suc}
 use Rattle.journal.specs.Orders.{Refusal, Order, decide}
 use Rattle.journal.proofs.OrdersLaws.{decide-yes, decide-no, decide-append-none, decide-append-some}
-use Rattle.trace.specs.Codes.{coded}
 use Rattle.validate.specs.Answers.{activeIn}
+use Rattle.trace.specs.Codes.{coded}
 use Rattle.undo.specs.Stages.{activeOrder, unknownIn, knownOrder}
 
 -- ---- an order tried from its lowest index

@@ -11,10 +11,10 @@ use Rattle.model.specs.History.{Amount}
 use Rattle.journal.specs.Journal.{count, items, history}
 use Rattle.journal.specs.Refusals.{stillActive, wrongStatus}
 use Rattle.journal.specs.Orders.{Order, try, decide, checkOrder}
-use Rattle.validate.specs.declared.Headed.{Headed}
-use Rattle.validate.specs.declared.Headed.the-variants as headed
+use Rattle.fields.specs.declared.Headed.{Headed}
+use Rattle.fields.specs.declared.Headed.the-variants as headed
+use Rattle.rules.specs.Arrays.{Ready, endsOf}
 use Rattle.validate.specs.Answers.{activeIn}
-use Rattle.validate.specs.Arrays.{Ready, endsOf}
 use Rattle.trace.specs.Codes.{coded}
 
 -- 11: transaction s has a record and no end

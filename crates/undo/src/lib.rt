@@ -7,19 +7,21 @@ ghost use Rattle.lists.specs.Tables.{each, number};
 ghost use Rattle.journal.specs.Journal.{history};
 ghost use Rattle.journal.specs.Orders.{decide};
 ghost use Rattle.journal.specs.Calls as calls;
-ghost use Rattle.validate.specs.Answers.{sizeOf, headerOf, verdictOf, activeIn};
-ghost use Rattle.validate.specs.Arrays.{endsOf};
+ghost use Rattle.fields.specs.Answers.{sizeOf, headerOf};
+ghost use Rattle.rules.specs.Answers.{verdictOf};
+ghost use Rattle.rules.specs.Arrays.{endsOf};
+ghost use Rattle.validate.specs.Answers.{activeIn};
 ghost use Rattle.trace.specs.Codes.{coded};
 ghost use Rattle.undo.specs.Stages.{activeOrder, knownOrder, admitOrder, examinedOrder, Examined, Left};
 ghost use Rattle.undo.specs.Answers.{answerOf};
+use fields::Headed;
 use format::TransactionId;
 use journal::Reason;
 use repair::number_at;
 use repair::number_of;
+use rules::Verdict;
 use trace::code_at;
 use trace::wide;
-use validate::Headed;
-use validate::Verdict;
 
 // How many transactions survive, are undone and were aborted, and the bytes of the copy.
 pub struct Counts {

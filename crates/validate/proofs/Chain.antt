@@ -18,8 +18,8 @@ use Rattle.model.specs.History.{Op, txOf, tagIn, laterOf, nextIn}
 use Rattle.journal.specs.Journal.{count, txIn, opOf, history, whole}
 use Rattle.journal.specs.Refusals.{unchained}
 use Rattle.journal.proofs.Records.{txOf-opOf, tagOf-opOf}
-use Rattle.validate.specs.Arrays.{nextsOf, broken, lowestBroken}
-use Rattle.validate.proofs.ArraysLaws.{getD-of, tabulate-set, tabulate-zeros}
+use Rattle.rules.proofs.ArraysLaws.{getD-of, tabulate-set, tabulate-zeros}
+use Rattle.validate.specs.Chain.{nextsOf, broken, lowestBroken}
 
 -- nothing is later than the last record
 none-later : (b : List ℕ) (n i s : ℕ) → n ≤ i → first (laterOf i s) (history b n) ≡ none

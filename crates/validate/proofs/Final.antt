@@ -23,15 +23,16 @@ use Rattle.model.specs.History.{Op, Amount, sameAmount, writeTo, ofTx, tagIn, a
 use Rattle.journal.specs.Journal.{count, items, history, whole, amountAt}
 use Rattle.journal.specs.Refusals.{unsettled}
 use Rattle.journal.specs.Orders.{Order, try, decide, settledOrder}
-use Rattle.validate.specs.Recent.{endCode}
-use Rattle.validate.specs.Arrays.{Ready, endsOf, firstsOf, writesOf}
+use Rattle.journal.proofs.OrdersLaws.{decide-append}
+use Rattle.fields.proofs.OrderLaws.{decide-try}
+use Rattle.rules.specs.Recent.{endCode}
+use Rattle.rules.specs.Arrays.{Ready, endsOf, firstsOf, writesOf}
+use Rattle.rules.proofs.Recent.{latest-none, any-latest, latest-passes, active-code}
+use Rattle.rules.proofs.Found.{first-found, found-none}
+use Rattle.rules.proofs.ArraysLaws.{ends-at, firsts-at}
+use Rattle.rules.proofs.ReadersLaws.{last-none, last-some}
+use Rattle.rules.proofs.AmountLaws.{standing-any}
 use Rattle.validate.specs.Answers.{activeIn}
-use Rattle.validate.proofs.Recent.{latest-none, any-latest, latest-passes, active-code}
-use Rattle.validate.proofs.Found.{first-found, found-none}
-use Rattle.validate.proofs.ArraysLaws.{ends-at, firsts-at}
-use Rattle.validate.proofs.ReadersLaws.{last-none, last-some}
-use Rattle.validate.proofs.AmountLaws.{standing-any}
-use Rattle.validate.proofs.OrderLaws.{decide-append, decide-try}
 
 -- ---- rule 10
 

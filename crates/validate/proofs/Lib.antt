@@ -1,14 +1,5 @@
-pub mod Recent
-pub mod Found
-pub mod ArraysLaws
-pub mod Walk
 pub mod Chain
-pub mod OrderLaws
-pub mod Fields
-pub mod ReadersLaws
-pub mod AmountLaws
-pub mod RuleLaws
-pub mod NoteLaws
+pub mod RecordLaws
 pub mod Pass
 pub mod Final
 pub mod Whole

@@ -19,12 +19,13 @@ use Rattle.journal.specs.Orders.{Refusal, decide, recordOrder, recordsOrder}
 use Rattle.journal.proofs.Clear.{decide-clear}
 use Rattle.journal.proofs.Checked.{clear-record}
 use Rattle.journal.specs.declared.Reason.{Reason}
-use Rattle.validate.specs.declared.Verdict.{Verdict}
-use Rattle.validate.specs.declared.Verdict.the-variants.{Passed, Refused}
-use Rattle.validate.specs.Answers.{refusalOf, verdictOf}
-use Rattle.validate.specs.Arrays.{Ready, Linked, State, Opened}
-use Rattle.validate.proofs.ArraysLaws.{ends-start, firsts-start, writes-start, bases-start, reads-start, length-ends, length-firsts, length-writes, length-bases, length-reads}
-use Rattle.validate.proofs.OrderLaws.{decide-each-step, decide-each-done, each-more}
+use Rattle.fields.specs.Answers.{Opened}
+use Rattle.fields.proofs.OrderLaws.{decide-each-step, decide-each-done, each-more}
+use Rattle.rules.specs.declared.Verdict.{Verdict}
+use Rattle.rules.specs.declared.Verdict.the-variants.{Passed, Refused}
+use Rattle.rules.specs.Answers.{refusalOf, verdictOf}
+use Rattle.rules.specs.Arrays.{Ready, Linked, State}
+use Rattle.rules.proofs.ArraysLaws.{ends-start, firsts-start, writes-start, bases-start, reads-start, length-ends, length-firsts, length-writes, length-bases, length-reads}
 
 -- ---- where it begins
 

@@ -4,63 +4,39 @@ use mathlib.Core.Path.{_≡_, refl, sym, _∙_, ap}
 use mathlib.Core.Bool.{cond, not}
 use mathlib.Core.List.{List, _++_}
 use mathlib.Core.Option.{Option, none, some, Option·none-ne-some}
-use Prim.Native.Nat.{ℕ, _+_, _-_, _*_, _≤_}
+use Prim.Native.Nat.{ℕ, _+_, _-_}
 use native.Mathlib.Omega.{arith}
 use lib.Dec.{eqb}
 use lib.ListN.{length}
-use borrow.Author.Tests.{eq-eqb, ne-eqb, not-false, ltb-false}
+use borrow.Author.Tests.{eq-eqb, ne-eqb}
 use Rattle.lists.specs.Search.{orElse}
 use Rattle.lists.specs.Tables.{number}
-use Rattle.format.specs.Layout.{recordAt}
 use Rattle.model.specs.History.{Amount}
 use Rattle.journal.specs.declared.Reason.{Reason}
 use Rattle.journal.specs.Reasons.{numberOf, placeOf}
 use Rattle.journal.specs.Journal.{count, items}
-use Rattle.journal.specs.Refusals.{short, torn, badHead, wrongTable}
-use Rattle.journal.specs.Orders.{Refusal, try, decide, openOrder, tableOrder, recordsOrder, settledOrder, checkOrder}
+use Rattle.journal.specs.Refusals.{wrongTable}
+use Rattle.journal.specs.Orders.{Refusal, decide, openOrder, tableOrder, recordsOrder, settledOrder, checkOrder}
 use Rattle.journal.specs.Calls.{refused, accepted, answered, check}
 use Rattle.journal.proofs.Checked.{Sound, open-clear, records-clear, clear-checks}
-use Rattle.journal.proofs.Clear.{clear-decide, decide-clear, clear-left, clear-right, try-clear}
-use Rattle.validate.specs.declared.Headed.{Headed}
-use Rattle.validate.specs.declared.Headed.the-variants as headed
-use Rattle.validate.specs.declared.Verdict.{Verdict}
-use Rattle.validate.specs.declared.Verdict.the-variants as verdict
-use Rattle.validate.specs.Answers.{Size, sizeOf, headerOf, verdictOf, refusalOf, laterOrder, activeIn}
-use Rattle.validate.specs.Arrays.{Opened, Ready, State}
-use Rattle.validate.proofs.OrderLaws.{decide-append, decide-try}
-use Rattle.validate.proofs.Fields.{head-counts}
+use Rattle.journal.proofs.Clear.{clear-decide, decide-clear}
+use Rattle.journal.proofs.OrdersLaws.{decide-append}
+use Rattle.fields.specs.declared.Headed.{Headed}
+use Rattle.fields.specs.declared.Headed.the-variants as headed
+use Rattle.fields.specs.Answers.{sizeOf, headerOf, Opened}
+use Rattle.fields.proofs.OrderLaws.{decide-try}
+use Rattle.fields.proofs.HeadLaws.{accepted-only, refused-only, opened, header-parts, header-opened}
+use Rattle.rules.specs.declared.Verdict.{Verdict}
+use Rattle.rules.specs.declared.Verdict.the-variants as verdict
+use Rattle.rules.specs.Answers.{verdictOf, refusalOf}
+use Rattle.rules.specs.Arrays.{Ready, State}
+use Rattle.validate.specs.Answers.{laterOrder, activeIn}
 use Rattle.validate.proofs.Final.{active-number}
 use Rattle.validate.proofs.Pass.{ready-at}
 
 -- ---- the head
 
-accepted-only : {A : Type 0} (d : Option Refusal) (x y : A) → accepted x ≡ answered d y → (d ≡ none) × (x ≡ y)
-accepted-only none x y e = let z : x ≡ y = cc in (refl, z)
-accepted-only (some r) x y e = let z : _≡_ {A = ℕ} 0 1 = cc in absurd (omega arith)
-
-refused-only : {A : Type 0} (k l : ℕ) (d : Option Refusal) (x : A) → refused k l ≡ answered d x → d ≡ some (record { number = k; place = l })
-refused-only k l none x e = let z : _≡_ {A = ℕ} 0 1 = cc in absurd (omega arith)
-refused-only k l (some r) x e = let i : k ≡ r .number = cc in let j : l ≡ r .place = cc in rw (i, j)
-
-opened : (b : List ℕ) → decide (openOrder b) ≡ none → Opened b (count b) (items b)
-unfolding openOrder short torn badHead count items
-opened b e =
-    let c = decide-clear _ e in
-    let d = clear-left (try 1 0 (short b) ++ try 2 0 (badHead b)) (try 1 0 (torn b)) c in
-    let h = try-clear 2 0 _ (clear-right (try 1 0 (short b)) (try 2 0 (badHead b)) d) in
-    let t = try-clear 1 0 _ (clear-right (try 1 0 (short b) ++ try 2 0 (badHead b)) (try 1 0 (torn b)) c) in
-    let (n, l, u) = head-counts (recordAt b 0) (not-false _ h) in
-    let f : 20 * (count b + 1) ≤ length b = ltb-false (length b) (20 * (count b + 1)) t in
-    record { counted = refl; keys = refl; long = omega arith; few = n; some = l; narrow = u }
-
 module _ (b : List ℕ) (h : Headed) (q : headerOf h ≡ answered (decide (openOrder b)) (sizeOf b)) where
-  module _ (n m : ℕ) (e : h ≡ headed.Counts n m) where
-    parts : (decide (openOrder b) ≡ none) × (_≡_ {A = Size} (record { records = n; items = m }) (sizeOf b))
-    parts = accepted-only _ _ _ (sym (ap headerOf e) ∙ q)
-
-    pub header-opened : Opened b n m
-    header-opened = let a : n ≡ count b = ap (λ s. s .records) (parts .1) in let c : m ≡ items b = ap (λ s. s .items) (parts .1) in rw (a, c) (opened b (parts .0))
-
   -- the head is refused: so is the journal
   module _ (why : Reason) (t : List Amount) (e : h ≡ headed.Refused why) where
     head-decides : decide (checkOrder b t) ≡ some (refusalOf why)
@@ -80,7 +56,7 @@ module _ (b : List ℕ) (n m : ℕ) (t : List Amount) (h : Headed) (q : headerOf
   pub table-parts : decide (checkOrder b t) ≡ orElse (cond (not (eqb (length t) m)) (some (record { number = 3; place = 0 })) none) (decide (laterOrder b t))
   unfolding checkOrder tableOrder wrongTable laterOrder
   table-parts =
-      rw (decide-append (openOrder b ++ tableOrder b t ++ recordsOrder b) (settledOrder b t), decide-append (openOrder b ++ tableOrder b t) (recordsOrder b), decide-append (openOrder b) (tableOrder b t), parts b h q n m e .0, decide-try 3 0 (wrongTable b t), decide-append (recordsOrder b) (settledOrder b t), header-opened b h q n m e .keys)
+      rw (decide-append (openOrder b ++ tableOrder b t ++ recordsOrder b) (settledOrder b t), decide-append (openOrder b ++ tableOrder b t) (recordsOrder b), decide-append (openOrder b) (tableOrder b t), header-parts b h q n m e .0, decide-try 3 0 (wrongTable b t), decide-append (recordsOrder b) (settledOrder b t), header-opened b h q n m e .keys)
       (apart (cond (not (eqb (length t) (items b))) (some (record { number = 3; place = 0 })) none) (decide (recordsOrder b)) (decide (settledOrder b t)))
     where
       apart : (x y z : Option Refusal) → orElse (orElse x y) z ≡ orElse x (orElse y z)
@@ -110,7 +86,7 @@ module _ (b : List ℕ) (n m : ℕ) (t : List Amount) (h : Headed) (q : headerOf
       verify-not y = absurd (Option·none-ne-some (refusalOf why) (sym y ∙ later-decides ∙ ap verdictOf f))
 
     pub verify-passed : v ≡ verdict.Passed → headerOf h ≡ answered (decide (checkOrder b t)) (sizeOf b)
-    verify-passed f = rw (later-decides, f) (q ∙ rw (parts b h q n m e .0))
+    verify-passed f = rw (later-decides, f) (q ∙ rw (header-parts b h q n m e .0))
 
 -- ---- the records, and rule 10
 

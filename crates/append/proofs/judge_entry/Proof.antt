@@ -21,17 +21,22 @@ enum-told c = search needs
 
 returns : tie.Need-returns
 returns c =
+    let a : tie.Start = c .before .before .before .before .before .before .before .before .before .before in
+    let g = c .before .before .before .before .agrees in
     let v = c .before .before .judge-new in
-    entry-passed (now (c .before .before .before .before .before .before .before .before .before .before .before .args .journal)) (tallyOf (c .before .before .before .before .before .before .before .before .before .before .before .args .counts)) (c .before .before .before .before .before .before .before .before .before .before .before .args .r) (c .before .before .before .before .agrees .result) (c .before .before .before .before .agrees .ensures) (c .before .before .before .if1 .taken) (v .result) (v .ensures) _ (c .before .before .before .before .before .before .before .before .before .before .before .pre .1) (c .enum-told .given .1)
+    entry-passed (now (a .args .journal)) (tallyOf (a .args .counts)) (a .args .r) (g .result) (g .ensures) (c .before .before .before .if1 .taken) (v .result) (v .ensures) _ (a .pre .1) (c .enum-told .given .1)
 
 returns-2 : tie.Need-returns-2
 returns-2 c =
+    let a : tie.Start = c .before .before .before .before .before .before .before .before .before .before .before in
+    let g = c .before .before .before .before .before .agrees in
     let v = c .before .before .before .judge-new in
-    entry-refused (now (c .before .before .before .before .before .before .before .before .before .before .before .before .args .journal)) (tallyOf (c .before .before .before .before .before .before .before .before .before .before .before .before .args .counts)) (c .before .before .before .before .before .before .before .before .before .before .before .before .args .r) (c .before .before .before .before .before .agrees .result) (c .before .before .before .before .before .agrees .ensures) (c .before .before .before .before .if1 .taken) (v .result) (v .ensures) _ (c .before .v .given .1)
+    entry-refused (now (a .args .journal)) (tallyOf (a .args .counts)) (a .args .r) (g .result) (g .ensures) (c .before .before .before .before .if1 .taken) (v .result) (v .ensures) _ (c .before .v .given .1)
 
 returns-3 : tie.Need-returns-3
 returns-3 c =
-    entry-counts (now (c .before .before .before .before .before .before .before .before .args .journal)) (tallyOf (c .before .before .before .before .before .before .before .before .args .counts)) (c .before .before .before .before .before .before .before .before .args .r) (c .before .agrees .result) (c .before .agrees .ensures) (c .if1 .left)
+    let a : tie.Start = c .before .before .before .before .before .before .before in
+    entry-counts (now (a .args .journal)) (tallyOf (a .args .counts)) (a .args .r) (c .before .agrees .result) (c .before .agrees .ensures) (c .if1 .left)
 
 pub judge-entry-spec : {M : Type 1} → statement M
 judge-entry-spec =

@@ -1,6 +1,8 @@
 -- `append::prepare` meets its contract: check, then rule 15 and the new record.
 -- Assumes nothing.
 use mathlib.Core.Path.{_∙_}
+use mathlib.Core.List.{List}
+use Prim.Native.Nat.{ℕ}
 use denote.Ref.{now}
 use Rattle.validate.proofs.Pass.{state-start}
 use Rattle.append.specs.Answers.{tallyOf}
@@ -48,7 +50,9 @@ returns c = search needs
 
 returns-2 : tie.Need-returns-2
 returns-2 c =
-    plan-refused (now (c .before .before .before .before .before .before .before .before .before .before .before .before .before .before .before .before .before .before .before .before .args .journal)) (now (c .before .before .before .before .before .before .before .before .before .before .before .before .before .before .before .before .before .before .before .before .args .table)) (tallyOf (c .before .before .before .before .before .before .before .before .before .before .before .before .before .before .before .before .before .before .before .before .args .counts)) (c .before .before .before .before .before .before .before .before .before .before .before .before .before .before .before .before .before .before .before .before .args .r) (c .before .before .before .before .before .before .before .before .before .before .before .before .verify .result) (c .before .before .before .before .before .before .before .before .before .before .before .before .verify .ensures .0) _ (c .before .before .before .before .head2 .given .1 ∙ c .before .head3 .given .1)
+    let v : tie.After-verify = c .before .before .before .before .before .before .before .before .before .before .before .before in
+    let a : tie.Start = v .before .before .before .before .before .before .before .before in
+    plan-refused (now (a .args .journal)) (now (a .args .table)) (tallyOf (a .args .counts)) (a .args .r) (v .verify .result) (v .verify .ensures .0) _ (c .before .before .before .before .head2 .given .1 ∙ c .before .head3 .given .1)
 
 slice-aggregate-judge-entry : tie.Need-slice-aggregate-judge-entry
 slice-aggregate-judge-entry c = search needs
@@ -62,17 +66,23 @@ slice-aggregate-judge-entry-3 c = search needs
 slice-aggregate-judge-entry-4 : tie.Need-slice-aggregate-judge-entry-4
 slice-aggregate-judge-entry-4 c = search needs
 
-slice-aggregate-judge-entry-5 : tie.Need-slice-aggregate-judge-entry-5
-slice-aggregate-judge-entry-5 c = search needs
-
 judge-entry-requires : tie.Need-judge-entry-requires
 judge-entry-requires c κs =
-    let e = c .before .before .before .before .before .before .head .given .1 in
-    (plan-ready (now (c .before .before .before .before .before .before .before .before .before .before .before .before .before .before .before .before .before .before .before .before .before .before .args .journal)) (now (c .before .before .before .before .before .before .before .before .before .before .before .before .before .before .before .before .before .before .before .before .before .before .args .table)) (tallyOf (c .before .before .before .before .before .before .before .before .before .before .before .before .before .before .before .before .before .before .before .before .before .before .args .counts)) (c .before .before .before .before .before .before .before .before .before .before .before .before .before .before .before .before .before .before .before .before .before .before .args .r) (c .before .before .before .before .before .before .before .before .before .before .before .before .before .before .verify .result) (c .before .before .before .before .before .before .before .before .before .before .before .before .before .before .verify .ensures .0) _ _ e, plan-counted (now (c .before .before .before .before .before .before .before .before .before .before .before .before .before .before .before .before .before .before .before .before .before .before .args .journal)) (now (c .before .before .before .before .before .before .before .before .before .before .before .before .before .before .before .before .before .before .before .before .before .before .args .table)) (tallyOf (c .before .before .before .before .before .before .before .before .before .before .before .before .before .before .before .before .before .before .before .before .before .before .args .counts)) (c .before .before .before .before .before .before .before .before .before .before .before .before .before .before .before .before .before .before .before .before .before .before .args .r) (c .before .before .before .before .before .before .before .before .before .before .before .before .before .before .verify .result) (c .before .before .before .before .before .before .before .before .before .before .before .before .before .before .verify .ensures .0) _ _ e, plan-keys (now (c .before .before .before .before .before .before .before .before .before .before .before .before .before .before .before .before .before .before .before .before .before .before .args .journal)) (now (c .before .before .before .before .before .before .before .before .before .before .before .before .before .before .before .before .before .before .before .before .before .before .args .table)) (tallyOf (c .before .before .before .before .before .before .before .before .before .before .before .before .before .before .before .before .before .before .before .before .before .before .args .counts)) (c .before .before .before .before .before .before .before .before .before .before .before .before .before .before .before .before .before .before .before .before .before .before .args .r) (c .before .before .before .before .before .before .before .before .before .before .before .before .before .before .verify .result) (c .before .before .before .before .before .before .before .before .before .before .before .before .before .before .verify .ensures .0) _ _ e, plan-arrays (now (c .before .before .before .before .before .before .before .before .before .before .before .before .before .before .before .before .before .before .before .before .before .before .args .journal)) (now (c .before .before .before .before .before .before .before .before .before .before .before .before .before .before .before .before .before .before .before .before .before .before .args .table)) (tallyOf (c .before .before .before .before .before .before .before .before .before .before .before .before .before .before .before .before .before .before .before .before .before .before .args .counts)) (c .before .before .before .before .before .before .before .before .before .before .before .before .before .before .before .before .before .before .before .before .before .before .args .r) (c .before .before .before .before .before .before .before .before .before .before .before .before .before .before .verify .result) (c .before .before .before .before .before .before .before .before .before .before .before .before .before .before .verify .ensures .0) _ _ e _ _ _ _ _ _ (c .before .before .before .before .before .before .before .before .before .before .before .before .before .before .verify .ensures .1), plan-matched (now (c .before .before .before .before .before .before .before .before .before .before .before .before .before .before .before .before .before .before .before .before .before .before .args .journal)) (now (c .before .before .before .before .before .before .before .before .before .before .before .before .before .before .before .before .before .before .before .before .before .before .args .table)) (tallyOf (c .before .before .before .before .before .before .before .before .before .before .before .before .before .before .before .before .before .before .before .before .before .before .args .counts)) (c .before .before .before .before .before .before .before .before .before .before .before .before .before .before .before .before .before .before .before .before .before .before .args .r) (c .before .before .before .before .before .before .before .before .before .before .before .before .before .before .verify .result) (c .before .before .before .before .before .before .before .before .before .before .before .before .before .before .verify .ensures .0) _ _ e (c .before .before .before .before .before .before .before .before .before .before .before .before .before .before .before .before .before .before .before .before .before .before .pre))
+    let v : tie.After-verify = c .before .before .before .before .before .before .before .before .before .before .before .before .before in
+    let a : tie.Start = v .before .before .before .before .before .before .before .before in
+    let b : List ℕ = now (a .args .journal) in
+    let t = now (a .args .table) in
+    let k = tallyOf (a .args .counts) in
+    let x = v .verify .result in
+    let y = v .verify .ensures in
+    let e = c .before .before .before .before .before .head .given .1 in
+    (plan-ready b t k (a .args .r) x (y .0) _ _ e, plan-counted b t k (a .args .r) x (y .0) _ _ e, plan-keys b t k (a .args .r) x (y .0) _ _ e, plan-arrays b t k (a .args .r) x (y .0) _ _ e _ _ _ _ _ _ (y .1), plan-matched b t k (a .args .r) x (y .0) _ _ e (a .pre))
 
 returns-3 : tie.Need-returns-3
 returns-3 c =
-    plan-entry (now (c .before .before .before .before .before .before .before .before .before .before .before .before .before .before .before .before .before .before .before .before .before .before .before .args .journal)) (now (c .before .before .before .before .before .before .before .before .before .before .before .before .before .before .before .before .before .before .before .before .before .before .before .args .table)) (tallyOf (c .before .before .before .before .before .before .before .before .before .before .before .before .before .before .before .before .before .before .before .before .before .before .before .args .counts)) (c .before .before .before .before .before .before .before .before .before .before .before .before .before .before .before .before .before .before .before .before .before .before .before .args .r) (c .before .before .before .before .before .before .before .before .before .before .before .before .before .before .before .verify .result) (c .before .before .before .before .before .before .before .before .before .before .before .before .before .before .before .verify .ensures .0) _ _ (c .before .before .before .before .before .before .before .head .given .1) _ (c .judge-entry .ensures)
+    let v : tie.After-verify = c .before .before .before .before .before .before .before .before .before .before .before .before .before .before in
+    let a : tie.Start = v .before .before .before .before .before .before .before .before in
+    plan-entry (now (a .args .journal)) (now (a .args .table)) (tallyOf (a .args .counts)) (a .args .r) (v .verify .result) (v .verify .ensures .0) _ _ (c .before .before .before .before .before .before .head .given .1) _ (c .judge-entry .ensures)
 
 pub prepare-spec : {M : Type 1} → statement M
 prepare-spec =
@@ -95,6 +105,5 @@ prepare-spec =
     slice-aggregate-judge-entry-2
     slice-aggregate-judge-entry-3
     slice-aggregate-judge-entry-4
-    slice-aggregate-judge-entry-5
     judge-entry-requires
     returns-3)

@@ -2,7 +2,7 @@
 -- Assumes nothing.
 use mathlib.Core.Path.{_∙_}
 use denote.Ref.{now}
-use Rattle.validate.proofs.Whole.{header-opened}
+use Rattle.fields.proofs.HeadLaws.{header-opened}
 use Rattle.chain.proofs.Stages.{begin-refused, begin-right}
 use borrow.Author.Needs.{needs}
 use Rattle.chain.proofs.begin.Statement.{statement}

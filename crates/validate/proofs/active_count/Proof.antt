@@ -1,7 +1,7 @@
 -- `validate::active_count` meets its contract. The loop: the transactions below s that are active are counted.
 -- Assumes nothing.
-use Rattle.validate.specs.Answers.{activeIn}
 use Rattle.lists.specs.Tables.{number}
+use Rattle.validate.specs.Answers.{activeIn}
 use denote.Ref.{now}
 use native.Mathlib.Omega.{arith}
 use Prim.Native.Nat.{_≤_, _<_, _-_}

@@ -1,11 +1,10 @@
 -- `validate::broken_link` meets its contract. The loop: the slots hold the lowest later record of each transaction, and `low` the lowest record after record i whose next is wrong.
 -- Assumes nothing.
-use Rattle.validate.proofs.Chain.{slots-count, slots-same}
+use Rattle.validate.proofs.Chain.{slots-count, slots-same, back-start, back-start-low, back-step, back-done}
 use native.Mathlib.Omega.{arith}
 use Prim.Native.Nat.{_≤_, _-_, _+_}
 use mathlib.Core.Path.{_≡_}
-use Rattle.validate.specs.Arrays.{nextsOf, lowestBroken}
-use Rattle.validate.proofs.Chain.{back-start, back-start-low, back-step, back-done}
+use Rattle.validate.specs.Chain.{nextsOf, lowestBroken}
 use Rattle.validate.proofs.broken_link.Statement.{statement}
 use Rattle.validate.proofs.broken_link.Tie as tie
 

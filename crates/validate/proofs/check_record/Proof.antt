@@ -1,6 +1,6 @@
 -- `validate::check_record` meets its contract.
 -- Assumes nothing.
-use Rattle.validate.proofs.RuleLaws.{record-malformed, record-formed, record-chain, record-rest}
+use Rattle.validate.proofs.RecordLaws.{record-malformed, record-formed, record-chain, record-rest}
 use borrow.Author.Needs.{needs}
 use Rattle.validate.proofs.check_record.Statement.{statement}
 use Rattle.validate.proofs.check_record.Tie as tie

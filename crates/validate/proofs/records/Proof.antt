@@ -1,7 +1,7 @@
 -- `validate::records` meets its contract. The loop: the first i records passed, the arrays are those after them, and what is left decides.
 -- Assumes nothing.
-use Rattle.validate.proofs.Pass.{done-state}
-use Rattle.validate.specs.Arrays.{lowestBroken}
+use Rattle.validate.specs.Chain.{lowestBroken}
+use Rattle.validate.proofs.Pass.{done-state, ready-at, none-passed, all-left, verdict-refused, verdict-passed, passed-more, formed-more, not-passed, none-left, same-ends, same-firsts, same-writes, same-bases, same-reads, same-links}
 use denote.Ref.{now}
 use borrow.Author.Needs.{needs}
 use native.Mathlib.Omega.{arith}
@@ -10,8 +10,7 @@ use mathlib.Core.Path.{_≡_, ap, _∙_}
 use mathlib.Core.Option.{none}
 use Rattle.lists.specs.Tables.{each}
 use Rattle.journal.specs.Orders.{decide, recordOrder, recordsOrder}
-use Rattle.validate.specs.Arrays.{State}
-use Rattle.validate.proofs.Pass.{ready-at, none-passed, all-left, verdict-refused, verdict-passed, passed-more, formed-more, not-passed, none-left, same-ends, same-firsts, same-writes, same-bases, same-reads, same-links}
+use Rattle.rules.specs.Arrays.{State}
 use Rattle.validate.proofs.records.Statement.{statement}
 use Rattle.validate.proofs.records.Tie as tie
 

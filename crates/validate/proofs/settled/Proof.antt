@@ -1,6 +1,6 @@
 -- `validate::settled` meets its contract.
 -- Assumes nothing.
-use Rattle.validate.proofs.ReadersLaws.{writes-in}
+use Rattle.rules.proofs.ReadersLaws.{writes-in}
 use Rattle.validate.proofs.Final.{settled-unwritten, settled-written}
 use borrow.Author.Needs.{needs}
 use Rattle.validate.proofs.settled.Statement.{statement}

@@ -1,10 +1,12 @@
 -- `validate::verify` meets its contract.
 -- Assumes nothing.
+use Rattle.fields.specs.Answers.{headerOf}
+use Rattle.rules.specs.Answers.{verdictOf}
 use Rattle.validate.proofs.Pass.{never-passed}
-use Rattle.validate.specs.Answers.{headerOf, verdictOf}
 use denote.Ref.{now}
 use mathlib.Core.Path.{sym, ap, _∙_}
-use Rattle.validate.proofs.Whole.{header-opened, header-refused, header-not, table-refused, table-not, verify-refused, verify-not, verify-passed, verify-state}
+use Rattle.fields.proofs.HeadLaws.{header-opened}
+use Rattle.validate.proofs.Whole.{header-refused, header-not, table-refused, table-not, verify-refused, verify-not, verify-passed, verify-state}
 use borrow.Author.Needs.{needs}
 use Rattle.validate.proofs.verify.Statement.{statement}
 use Rattle.validate.proofs.verify.Tie as tie

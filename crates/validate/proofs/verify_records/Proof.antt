@@ -1,6 +1,6 @@
 -- `validate::verify_records` meets its contract.
 -- Assumes nothing.
-use Rattle.validate.specs.Answers.{verdictOf}
+use Rattle.rules.specs.Answers.{verdictOf}
 use denote.Ref.{now}
 use mathlib.Core.Path.{ap, _∙_}
 use Rattle.validate.proofs.Pass.{not-passed}

@@ -1,0 +1,3 @@
+pub mod OrderLaws
+pub mod Fields
+pub mod HeadLaws

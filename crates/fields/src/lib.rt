@@ -1,0 +1,111 @@
+// The fields of a journal: its head, by refusals 1 and 2, and those of a record, by rule 4.
+ghost use mathlib.Core.Path.{_≡_};
+ghost use mathlib.Core.Bool.{not, _&&_};
+ghost use lib.IntN.{pos};
+ghost use Rattle.model.specs.History.{sameAmount};
+ghost use Rattle.journal.specs.Refusals.{headRight, malformed};
+ghost use Rattle.journal.specs.Orders.{decide, openOrder};
+ghost use Rattle.journal.specs.Calls.{answered};
+ghost use Rattle.fields.specs.Answers.{headerOf, sizeOf};
+use format::Record;
+use format::record_at;
+use journal::Reason;
+
+// The head's record count and item count.
+pub enum Headed {
+    Counts(u32, u32),
+    Refused(Reason),
+}
+
+// Two amounts are the same.
+pub fn same(a: i32, b: i32) -> bool
+    ensures { λ r. ⌜ r ≡ sameAmount a b ⌝ }
+{
+    a == b
+}
+
+// Before and after are 0.
+fn no_amounts(r: Record) -> bool
+    ensures { λ h. ⌜ h ≡ sameAmount (r .before) (pos 0) && sameAmount (r .after) (pos 0) ⌝ }
+{
+    if same(r.before, 0) {
+        same(r.after, 0)
+    } else {
+        false
+    }
+}
+
+// The fields of record 0.
+fn head_right(r: Record) -> bool
+    ensures { λ h. ⌜ h ≡ headRight r ⌝ }
+{
+    if r.kind != 0 {
+        return false;
+    }
+    if r.reserved != 0 {
+        return false;
+    }
+    if r.transaction.0 != 0 {
+        return false;
+    }
+    if 3200 < r.next.0 {
+        return false;
+    }
+    if r.item.0 < 1 {
+        return false;
+    }
+    if 1024 < r.item.0 {
+        return false;
+    }
+    no_amounts(r)
+}
+
+// The record count and the item count, or refusal 1 or 2.
+pub fn header(journal: &[u8]) -> Headed
+    ensures { λ r. ⌜ headerOf r ≡ answered (decide (openOrder (now (journal .entry)))) (sizeOf (now (journal .entry))) ⌝ }
+{
+    if journal.len() < 20 {
+        return Headed::Refused(Reason::Truncated);
+    }
+    let r = record_at(journal, 0);
+    if head_right(r) {
+        let n = r.next.0;
+        let size = 20 * (n as usize + 1);
+        if journal.len() < size {
+            Headed::Refused(Reason::Truncated)
+        } else {
+            Headed::Counts(n, r.item.0)
+        }
+    } else {
+        Headed::Refused(Reason::Header)
+    }
+}
+
+// Rule 4: the fields of a record but next, by its kind; `items` is the item count.
+pub fn formed(items: u32, r: Record) -> bool
+    ensures { λ h. ⌜ h ≡ not (malformed items r) ⌝ }
+{
+    if r.reserved != 0 {
+        return false;
+    }
+    if r.transaction.0 < 1 {
+        return false;
+    }
+    if 1024 < r.transaction.0 {
+        return false;
+    }
+    let kind = r.kind;
+    match kind {
+        1 => {
+            if r.item.0 < items {
+                no_amounts(r)
+            } else {
+                false
+            }
+        }
+        2 => r.item.0 < items,
+        3 => { if r.item.0 == 0 { no_amounts(r) } else { false } }
+        4 => { if r.item.0 == 0 { no_amounts(r) } else { false } }
+        _ => false,
+    }
+}

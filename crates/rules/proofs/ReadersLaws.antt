@@ -1,0 +1,152 @@
+-- Touched of an item, one after the other.
+-- Assumes nothing.
+use mathlib.Core.Path.{_≡_, refl, sym, _∙_, ap}
+use mathlib.Core.Bool.{Bool, true, false, _||_}
+use mathlib.Core.List.{List}
+use Prim.Native.Nat.{ℕ, _+_, _*_, _<_, _≤_}
+use native.Mathlib.Omega.{arith}
+use lib.Dec.{eqb}
+use lib.ListN.{length, getD}
+use borrow.Author.Tests.{eq-eqb, ne-eqb}
+use mathlib.Core.Option.{none, some}
+use Rattle.lists.specs.Search.{any}
+use Rattle.format.specs.Layout.{recordAt}
+use Rattle.model.specs.History.{tagIn, ofTx, writeTo}
+use Rattle.journal.specs.Journal.{txIn, opOf, history}
+use Rattle.journal.proofs.Records.{txOf-opOf}
+use Rattle.rules.specs.declared.Touched.{Touched}
+use Rattle.rules.specs.Recent.{otherActive, lastWrite, readsSince, newest, readByOther}
+use Rattle.rules.specs.Arrays.{Ready, Linked, endsOf, writesOf, readsOf, readBefore}
+use Rattle.rules.specs.Answers.{writerOf, readersOf, looked}
+use Rattle.rules.proofs.Found.{latest-found, found-none, found-bound, found-some, passed-range}
+use Rattle.rules.proofs.ArraysLaws.{ends-at, writes-at, reads-at, length-ends, length-writes, length-reads}
+use Rattle.rules.proofs.Walk.{ReadAt, among, newest-bound, newest-is-read, among-newest, among-none, among-step, before-less, before-read}
+
+or-true : (a : Bool) → a || true ≡ true
+or-true true = refl
+or-true false = refl
+
+or-none : (a : Bool) → a || false ≡ a
+or-none true = refl
+or-none false = refl
+
+module _ (ends : List ℕ) (s v : ℕ) where
+  module _ (f : Touched) where
+    pub looked-own : s ≡ v → _≡_ {A = Touched} (record { other = f .other; own = true }) (looked ends s v f)
+    unfolding looked
+    looked-own e = rw (eq-eqb s v e, or-none (f .other), or-true (f .own))
+
+    pub looked-other : (s ≡ v → ⊥) → getD ends v 0 ≡ 0 → _≡_ {A = Touched} (record { other = true; own = f .own }) (looked ends s v f)
+    unfolding looked
+    looked-other e z = rw (ne-eqb s v e, z, or-none (f .own), or-true (f .other))
+
+    pub looked-ended : (s ≡ v → ⊥) → (getD ends v 0 ≡ 0 → ⊥) → f ≡ looked ends s v f
+    unfolding looked
+    looked-ended e z = rw (ne-eqb s v e, ne-eqb (getD ends v 0) 0 z, or-none (f .own), or-none (f .other))
+
+-- ---- the last writer
+
+abbrev pub nobody : Touched
+nobody = record { other = false; own = false }
+
+module _ (b : List ℕ) (n x w : ℕ) (l : List ℕ) (k : Ready b n) (e : l ≡ writesOf (history b n)) (h : x < 1024) (q : w ≡ getD l x 0) where
+  pub last-tag : w ≡ tagIn (lastWrite (history b n) x)
+  last-tag = q ∙ rw e (writes-at (history b n) x h)
+
+  pub last-le : w ≤ n
+  last-le = rw last-tag (found-bound (latest-found (writeTo x) b n))
+
+  pub last-long : 20 * w + 20 ≤ length b
+  last-long = let z = last-le in omega (arith, k .long)
+
+  pub last-none : w ≡ 0 → lastWrite (history b n) x ≡ none
+  last-none z = found-none (latest-found (writeTo x) b n) (sym last-tag ∙ z)
+
+  pub last-some : (w ≡ 0 → ⊥) → lastWrite (history b n) x ≡ some (opOf w (recordAt b w))
+  last-some z =
+      found-some (latest-found (writeTo x) b n) (λ y. z (last-tag ∙ y)) ∙ ap (λ t. some (opOf t (recordAt b t))) (sym last-tag)
+
+  pub last-range : (v : ℕ) (m : List ℕ) → (w ≡ 0 → ⊥) → v ≡ txIn (recordAt b w) → m ≡ endsOf (history b n) → v < length m
+  last-range v m z y f =
+      let r = passed-range b n (k .passed) w (omega arith) last-le in
+      rw (f, length-ends (history b n)) (omega arith)
+
+  pub last-nobody : (s : ℕ) → w ≡ 0 → nobody ≡ writerOf (history b n) s x
+  unfolding writerOf
+  last-nobody s z = rw (last-none z)
+
+  pub last-looked : (s v : ℕ) (m : List ℕ) (r : Touched) → (w ≡ 0 → ⊥) → v ≡ txIn (recordAt b w) → m ≡ endsOf (history b n) → r ≡ looked m s v nobody
+      → r ≡ writerOf (history b n) s x
+  unfolding writerOf looked
+  last-looked s v m r z y f g =
+      let c = last-range v m z y f in
+      let d : v < 1025 = omega (arith, length-ends (history b n), ap length f) in
+      g ∙ rw (last-some z, txOf-opOf w (recordAt b w), f, ends-at (history b n) v d, y)
+
+pub writes-in : (b : List ℕ) (n x : ℕ) (l : List ℕ) → l ≡ writesOf (history b n) → x < 1024 → x < length l
+writes-in b n x l e h = rw (e, length-writes (history b n)) h
+
+pub reads-in : (b : List ℕ) (n x : ℕ) (l : List ℕ) → l ≡ readsOf (history b n) → x < 1024 → x < length l
+reads-in b n x l e h = rw (e, length-reads (history b n)) h
+
+-- ---- the readers since
+
+or-assoc : (a b c : Bool) → (a || b) || c ≡ a || (b || c)
+or-assoc true b c = refl
+or-assoc false b c = refl
+
+-- at read k of item x, with those found on the way
+pub record Walked (b : List ℕ) (n s x : ℕ) (f : Touched) (k : ℕ) (all : Touched) : Type 0 where
+  pub low : k ≤ n
+  pub read : (k ≡ 0 → ⊥) → ReadAt b x k
+  pub other : all .other || among (otherActive (history b n) s) x b k ≡ f .other || readByOther (history b n) s x
+  pub own : all .own || among (eqb s) x b k ≡ f .own || any (ofTx s) (readsSince x (history b n))
+
+pub walked-start : (b : List ℕ) (n s x : ℕ) (f : Touched) (k : ℕ) (l : List ℕ) → l ≡ readsOf (history b n) → x < 1024 → k ≡ getD l x 0 → Walked b n s x f k f
+walked-start b n s x f k l e h q =
+    let z : k ≡ newest (readsSince x (history b n)) = q ∙ rw e (reads-at (history b n) x h) in
+    rw z
+    (record {
+      low = newest-bound b x n;
+      read = newest-is-read b x n;
+      other = ap (λ a. f .other || a) (sym (among-newest b x n (otherActive (history b n) s)));
+      own = ap (λ a. f .own || a) (sym (among-newest b x n (eqb s)));
+    })
+
+module _ (b : List ℕ) (n s x : ℕ) (f : Touched) (k : ℕ) (all : Touched) (w : Walked b n s x f k all) where
+  pub walked-long : Ready b n → 20 * k + 20 ≤ length b
+  walked-long r = omega (arith, w .low, r .long)
+
+  pub walked-in : (l : List ℕ) → Ready b n → Linked b n l → k < length l
+  walked-in l r i = omega (arith, w .low, r .few, i .size)
+
+  pub walked-range : (v : ℕ) (m : List ℕ) → Ready b n → (k ≡ 0 → ⊥) → v ≡ txIn (recordAt b k) → m ≡ endsOf (history b n) → v < length m
+  walked-range v m r z y e =
+      let a = passed-range b n (r .passed) k (omega arith) (w .low) in
+      rw (e, length-ends (history b n)) (omega arith)
+
+  pub walked-less : (l : List ℕ) (j : ℕ) → Linked b n l → (k ≡ 0 → ⊥) → j ≡ getD l k 0 → j < k
+  walked-less l j i z q = rw (q, i .link k (omega arith) (w .low) (w .read z .kind)) (before-less b k z)
+
+  pub walked-step : (v : ℕ) (m l : List ℕ) (j : ℕ) (more : Touched) → Ready b n → (k ≡ 0 → ⊥) → v ≡ txIn (recordAt b k) → m ≡ endsOf (history b n) → more ≡ looked m s v all
+      → Linked b n l → j ≡ getD l k 0 → Walked b n s x f j more
+  unfolding looked
+  walked-step v m l j more r z y e g i q =
+      let c = walked-range v m r z y e in
+      let d : v < 1025 = omega (arith, length-ends (history b n), ap length e) in
+      let t : j ≡ readBefore b k = q ∙ i .link k (omega arith) (w .low) (w .read z .kind) in
+      let less = walked-less l j i z q in
+      rw (g, e, ends-at (history b n) v d)
+      (record {
+        low = omega (arith, w .low);
+        read = λ p. rw t (before-read b x k (w .read z) (λ o. p (t ∙ o)));
+        other = rw t (or-assoc (all .other) _ _ ∙ ap (λ a. all .other || a) (rw y (sym (among-step (otherActive (history b n) s) x b k z (w .read z)))) ∙ w .other);
+        own = rw t (or-assoc (all .own) _ _ ∙ ap (λ a. all .own || a) (rw y (sym (among-step (eqb s) x b k z (w .read z)))) ∙ w .own);
+      })
+
+  pub walked-end : k ≡ 0 → all ≡ readersOf (history b n) s x f
+  unfolding readersOf
+  walked-end z =
+      let o : all .other ≡ f .other || readByOther (history b n) s x = sym (or-none (all .other)) ∙ ap (λ a. all .other || a) (sym (among-none (otherActive (history b n) s) x b)) ∙ (rw z at (w .other)) in
+      let p : all .own ≡ f .own || any (ofTx s) (readsSince x (history b n)) = sym (or-none (all .own)) ∙ ap (λ a. all .own || a) (sym (among-none (eqb s) x b)) ∙ (rw z at (w .own)) in
+      rw (← o, ← p)

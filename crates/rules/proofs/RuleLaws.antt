@@ -1,0 +1,168 @@
+-- Rules 6 to 9 of a record, decided from what the working arrays hold.
+-- Assumes nothing.
+use mathlib.Core.Path.{_≡_, refl, sym, _∙_, ap}
+use mathlib.Core.Bool.{Bool, true, false, cond, not, _&&_}
+use mathlib.Core.List.{List}
+use mathlib.Core.Option.{Option, none, some}
+use Prim.Native.Nat.{ℕ, _+_, _<_}
+use native.Mathlib.Omega.{arith}
+use lib.IntN.{pos}
+use lib.Dec.{eqb}
+use lib.ListN.{length, getD}
+use borrow.Author.Tests.{ne-eqb, not-true, not-false}
+use mir.Syntax.{w32}
+use mir.Val.{toZ, ofZ, SFits}
+use mir.ValLaws.{toZ-ofZ}
+use Rattle.lists.specs.Search.{any, orElse}
+use Rattle.format.specs.declared.Record.{Record}
+use Rattle.model.specs.History.{Op, History, Amount, sameAmount, commit, abort, other, writeTo, ended, standing}
+use Rattle.model.specs.Rules as rules
+use Rattle.journal.specs.Journal.{items, txIn, opOf, history}
+use Rattle.journal.specs.Refusals.{malformed, closed, crossed, blind, mismatched}
+use Rattle.journal.specs.Orders.{Refusal, decide}
+use Rattle.journal.proofs.Records.{txOf-opOf}
+use Rattle.journal.proofs.OrdersLaws.{decide-append}
+use Rattle.fields.proofs.OrderLaws.{decide-try}
+use Rattle.fields.proofs.Fields.{formed-range, formed-item-read, formed-item-write}
+use Rattle.rules.specs.declared.Touched.{Touched}
+use Rattle.rules.specs.Recent.{endCode, lastWrite, byOtherActive, unlikeStanding}
+use Rattle.rules.specs.Arrays.{Ready, endsOf, writesOf}
+use Rattle.rules.specs.Answers.{ruleOrder, writerOf, readersOf}
+use Rattle.rules.proofs.Recent.{latest-passes, any-latest, latest-none, ended-code, open-reads, other-writer, other-access}
+use Rattle.rules.proofs.Found.{passing-history}
+use Rattle.rules.proofs.ArraysLaws.{ends-at, length-ends, op-read, op-write}
+use Rattle.rules.proofs.ReadersLaws.{last-none, last-some}
+
+-- what is returned for number k at record i
+abbrev pub at : ℕ → ℕ → Option Refusal
+at k i = some (record { number = k; place = i })
+
+pub rule-parts : (p : History) (i : ℕ) (o : Op)
+    → decide (ruleOrder p i o) ≡ orElse (orElse (orElse (cond (closed p o) (at 6 i) none) (cond (crossed p o) (at 7 i) none)) (cond (blind p o) (at 8 i) none)) (cond (mismatched p o) (at 9 i) none)
+unfolding ruleOrder
+rule-parts p i o = simp (decide-append, decide-try)
+
+-- ---- rules 6 to 9
+
+module _ (b : List ℕ) (n : ℕ) (r : Record) (k : Ready b n) (f : malformed (items b) r ≡ false) where
+  pub item-read : r .kind ≡ 1 → r .item .0 < 1024
+  item-read e = let a = formed-item-read (items b) r f e in omega (arith, k .items)
+
+  pub item-write : r .kind ≡ 2 → r .item .0 < 1024
+  item-write e = let a = formed-item-write (items b) r f e in omega (arith, k .items)
+
+  pub tx-in : (m : List ℕ) → m ≡ endsOf (history b n) → txIn r < length m
+  tx-in m e = let a = formed-range (items b) r f in rw (e, length-ends (history b n)) (omega arith)
+
+  module _ (m : List ℕ) (g : m ≡ endsOf (history b n)) where
+    end-is : getD m (txIn r) 0 ≡ endCode (history b n) (txIn r)
+    end-is = let a = formed-range (items b) r f in rw (g, ends-at (history b n) (txIn r) (omega arith))
+
+    closed-is : closed (history b n) (opOf (n + 1) r) ≡ not (eqb (getD m (txIn r) 0) 0)
+    unfolding closed
+    closed-is = rw (txOf-opOf (n + 1) r, end-is) (ended-code (history b n) (txIn r))
+
+    -- 6
+    pub rule-closed : (getD m (txIn r) 0 ≡ 0 → ⊥) → at 6 (n + 1) ≡ decide (ruleOrder (history b n) (n + 1) (opOf (n + 1) r))
+    rule-closed z = rw (rule-parts (history b n) (n + 1) (opOf (n + 1) r), closed-is, ne-eqb (getD m (txIn r) 0) 0 z)
+
+    module _ (z : getD m (txIn r) 0 ≡ 0) where
+      unended : ended (history b n) (txIn r) ≡ false
+      unended = ended-code (history b n) (txIn r) ∙ rw (← end-is, z)
+
+      rest : decide (ruleOrder (history b n) (n + 1) (opOf (n + 1) r))
+          ≡ orElse (orElse (cond (crossed (history b n) (opOf (n + 1) r)) (at 7 (n + 1)) none) (cond (blind (history b n) (opOf (n + 1) r)) (at 8 (n + 1)) none)) (cond (mismatched (history b n) (opOf (n + 1) r)) (at 9 (n + 1)) none)
+      rest = rw (rule-parts (history b n) (n + 1) (opOf (n + 1) r), closed-is, z)
+
+      -- an end
+      pub rule-end : (r .kind ≡ 1 → ⊥) → (r .kind ≡ 2 → ⊥) → none ≡ decide (ruleOrder (history b n) (n + 1) (opOf (n + 1) r))
+      unfolding opOf crossed blind mismatched
+      rule-end c d = rw (rest, ne-eqb (r .kind) 1 c, ne-eqb (r .kind) 2 d) (two (eqb (r .kind) 3) (eqb (r .kind) 4))
+        where
+          of : Bool → Bool → Op
+          of e g = cond e (commit (n + 1) (txIn r)) (cond g (abort (n + 1) (txIn r)) (other (n + 1) (txIn r)))
+
+          two : (e g : Bool)
+              → none ≡ orElse (orElse (cond (rules.crossed (history b n) (of e g)) (at 7 (n + 1)) none) (cond (rules.blind (history b n) (of e g)) (at 8 (n + 1)) none)) (cond (rules.mismatched (history b n) (of e g)) (at 9 (n + 1)) none)
+          two true g = refl
+          two false true = refl
+          two false false = refl
+
+      -- a read
+      module _ (e : r .kind ≡ 1) (t : Touched) (w : t ≡ writerOf (history b n) (txIn r) (r .item .0)) where
+        read-rest : decide (ruleOrder (history b n) (n + 1) (opOf (n + 1) r)) ≡ cond (t .other) (at 7 (n + 1)) none
+        unfolding crossed blind mismatched writerOf
+        read-rest =
+            rw (rest, op-read (n + 1) r e, other-writer (history b n) (passing-history b n (k .passed)) (txIn r) (r .item .0), w)
+            (tidy (byOtherActive (history b n) (txIn r) (lastWrite (history b n) (r .item .0))))
+          where
+            tidy : (c : Bool) → orElse (orElse (cond c (at 7 (n + 1)) none) none) none ≡ cond c (at 7 (n + 1)) none
+            tidy true = refl
+            tidy false = refl
+
+        pub read-crossed : t .other ≡ true → at 7 (n + 1) ≡ decide (ruleOrder (history b n) (n + 1) (opOf (n + 1) r))
+        read-crossed h = rw (read-rest, h)
+
+        pub read-passed : t .other ≡ false → none ≡ decide (ruleOrder (history b n) (n + 1) (opOf (n + 1) r))
+        read-passed h = rw (read-rest, h)
+
+      -- a write
+      module _ (e : r .kind ≡ 2) (t u : Touched) (w : t ≡ writerOf (history b n) (txIn r) (r .item .0)) (v : u ≡ readersOf (history b n) (txIn r) (r .item .0) t) where
+        crossed-is : crossed (history b n) (opOf (n + 1) r) ≡ u .other
+        unfolding crossed writerOf readersOf
+        crossed-is = rw (op-write (n + 1) r e, v, w) (other-access (history b n) (passing-history b n (k .passed)) (txIn r) (r .item .0))
+
+        blind-is : blind (history b n) (opOf (n + 1) r) ≡ not (u .own)
+        unfolding blind writerOf readersOf
+        blind-is = rw (op-write (n + 1) r e, v, w) (ap not (open-reads (r .item .0) (txIn r) (history b n) (passing-history b n (k .passed)) unended))
+
+        mismatched-is : mismatched (history b n) (opOf (n + 1) r) ≡ any (writeTo (r .item .0)) (history b n) && not (sameAmount (r .before) (standing (pos 0) (history b n) (r .item .0)))
+        unfolding mismatched
+        mismatched-is = rw (op-write (n + 1) r e)
+
+        pub write-crossed : u .other ≡ true → at 7 (n + 1) ≡ decide (ruleOrder (history b n) (n + 1) (opOf (n + 1) r))
+        write-crossed h = rw (rest, crossed-is, h)
+
+        module _ (h : u .other ≡ false) where
+          pub write-blind : u .own ≡ false → at 8 (n + 1) ≡ decide (ruleOrder (history b n) (n + 1) (opOf (n + 1) r))
+          write-blind o = rw (rest, crossed-is, h, blind-is, o)
+
+          pub write-matched : u .own ≡ true → mismatched (history b n) (opOf (n + 1) r) ≡ false → none ≡ decide (ruleOrder (history b n) (n + 1) (opOf (n + 1) r))
+          write-matched o x = rw (rest, crossed-is, h, blind-is, o, x)
+
+          module _ (o : u .own ≡ true) (p : Bool) (q : p ≡ not (unlikeStanding (history b n) (r .item .0) (r .before))) where
+            last-is : decide (ruleOrder (history b n) (n + 1) (opOf (n + 1) r)) ≡ cond (unlikeStanding (history b n) (r .item .0) (r .before)) (at 9 (n + 1)) none
+            unfolding unlikeStanding
+            last-is = rw (rest, crossed-is, h, blind-is, o, mismatched-is)
+
+            pub write-right : p ≡ true → none ≡ decide (ruleOrder (history b n) (n + 1) (opOf (n + 1) r))
+            write-right x = rw (last-is, not-true (unlikeStanding (history b n) (r .item .0) (r .before)) (sym q ∙ x))
+
+            pub write-wrong : p ≡ false → at 9 (n + 1) ≡ decide (ruleOrder (history b n) (n + 1) (opOf (n + 1) r))
+            write-wrong x = rw (last-is, not-false (unlikeStanding (history b n) (r .item .0) (r .before)) (sym q ∙ x))
+
+-- ---- rule 9
+
+module _ (b : List ℕ) (n x j : ℕ) (l : List ℕ) (k : Ready b n) (d : l ≡ writesOf (history b n)) (e : x < 1024) (q : j ≡ getD l x 0) (a : Amount) where
+  -- no earlier write
+  pub unlike-unwritten : j ≡ 0 → true ≡ not (unlikeStanding (history b n) x a)
+  unfolding unlikeStanding
+  unlike-unwritten y = rw (latest-none (writeTo x) (history b n) (last-none b n x j l k d e q y))
+
+  written : (j ≡ 0 → ⊥) → any (writeTo x) (history b n) ≡ true
+  written y =
+      let s = last-some b n x j l k d e q y in any-latest (writeTo x) (writeTo x) (history b n) s (latest-passes (writeTo x) (history b n) s)
+
+  -- a compared with the standing amount s
+  pub unlike-written : (s : Amount) (p : Bool) → (j ≡ 0 → ⊥) → s ≡ standing (pos 0) (history b n) x → p ≡ sameAmount a s → p ≡ not (unlikeStanding (history b n) x a)
+  unfolding unlikeStanding
+  unlike-written s p y c f = f ∙ rw (written y, c) (twice (sameAmount a (standing (pos 0) (history b n) x)))
+    where
+      twice : (t : Bool) → t ≡ not (not t)
+      twice true = refl
+      twice false = refl
+
+  -- each read back from its bits
+  pub unlike-bits : (s : Amount) (p : Bool) → (j ≡ 0 → ⊥) → s ≡ standing (pos 0) (history b n) x → SFits w32 a → SFits w32 s → p ≡ sameAmount (toZ w32 (ofZ w32 a)) (toZ w32 (ofZ w32 s))
+      → p ≡ not (unlikeStanding (history b n) x a)
+  unlike-bits s p y c fa fs f = unlike-written s p y c (f ∙ rw (toZ-ofZ w32 a fa, toZ-ofZ w32 s fs))

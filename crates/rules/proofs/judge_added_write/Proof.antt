@@ -1,0 +1,52 @@
+-- `rules::judge_added_write` meets its contract.
+-- Assumes nothing.
+use Rattle.rules.proofs.RuleLaws.{item-write, write-crossed, write-blind, write-matched}
+use borrow.Author.Needs.{needs}
+use Rattle.rules.proofs.judge_added_write.Statement.{statement}
+use Rattle.rules.proofs.judge_added_write.Tie as tie
+
+add-lsn : tie.Need-add-lsn
+add-lsn c = search needs
+
+cast-lsn : tie.Need-cast-lsn
+cast-lsn c = search needs
+
+cast-x : tie.Need-cast-x
+cast-x c = search needs
+
+cast-s : tie.Need-cast-s
+cast-s c = search needs
+
+last-writer-requires : tie.Need-last-writer-requires
+last-writer-requires c κs =
+    search item-write
+
+readers-requires : tie.Need-readers-requires
+readers-requires c κs =
+    search item-write
+
+returns : tie.Need-returns
+returns c =
+    search write-crossed
+
+returns-2 : tie.Need-returns-2
+returns-2 c =
+    search write-matched
+
+returns-3 : tie.Need-returns-3
+returns-3 c =
+    search write-blind
+
+pub judge-added-write-spec : {M : Type 1} → statement M
+judge-added-write-spec =
+    tie.close
+    (tie.spec
+    add-lsn
+    cast-lsn
+    cast-x
+    cast-s
+    last-writer-requires
+    readers-requires
+    returns
+    returns-2
+    returns-3)

@@ -1,0 +1,34 @@
+-- `rules::judge_read` meets its contract.
+-- Assumes nothing.
+use Rattle.rules.proofs.RuleLaws.{item-read, read-crossed, read-passed}
+use borrow.Author.Needs.{needs}
+use Rattle.rules.proofs.judge_read.Statement.{statement}
+use Rattle.rules.proofs.judge_read.Tie as tie
+
+add-i : tie.Need-add-i
+add-i c = search needs
+
+cast-i : tie.Need-cast-i
+cast-i c = search needs
+
+cast-x : tie.Need-cast-x
+cast-x c = search needs
+
+cast-s : tie.Need-cast-s
+cast-s c = search needs
+
+last-writer-requires : tie.Need-last-writer-requires
+last-writer-requires c κs =
+    search item-read
+
+returns : tie.Need-returns
+returns c =
+    search read-crossed
+
+returns-2 : tie.Need-returns-2
+returns-2 c =
+    search read-passed
+
+pub judge-read-spec : {M : Type 1} → statement M
+judge-read-spec =
+    tie.close (tie.spec add-i cast-i cast-x cast-s last-writer-requires returns returns-2)

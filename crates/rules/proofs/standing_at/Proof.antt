@@ -1,0 +1,56 @@
+-- `rules::standing_at` meets its contract.
+-- Assumes nothing.
+use Rattle.rules.proofs.AmountLaws.{bases-in, base-long, last-ends, standing-after, standing-before}
+use Rattle.rules.proofs.ReadersLaws.{writes-in, last-long}
+use borrow.Author.Needs.{needs}
+use Rattle.rules.proofs.standing_at.Statement.{statement}
+use Rattle.rules.proofs.standing_at.Tie as tie
+
+at-requires : tie.Need-at-requires
+at-requires c κs =
+    search writes-in
+
+transaction-at-requires : tie.Need-transaction-at-requires
+transaction-at-requires c κs =
+    search last-long
+
+cast-v : tie.Need-cast-v
+cast-v c = search needs
+
+shared-slice-read-if1 : tie.Need-shared-slice-read-if1
+shared-slice-read-if1 c =
+    search last-ends
+
+at-requires-2 : tie.Need-at-requires-2
+at-requires-2 c κs =
+    search bases-in
+
+record-at-requires : tie.Need-record-at-requires
+record-at-requires c κs =
+    search base-long
+
+record-at-requires-2 : tie.Need-record-at-requires-2
+record-at-requires-2 c κs =
+    search last-long
+
+returns : tie.Need-returns
+returns c =
+    search (standing-before, needs)
+
+returns-2 : tie.Need-returns-2
+returns-2 c =
+    search (standing-after, needs)
+
+pub standing-at-spec : {M : Type 1} → statement M
+standing-at-spec =
+    tie.close
+    (tie.spec
+    at-requires
+    transaction-at-requires
+    cast-v
+    shared-slice-read-if1
+    at-requires-2
+    record-at-requires
+    record-at-requires-2
+    returns
+    returns-2)

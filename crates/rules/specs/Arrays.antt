@@ -1,0 +1,86 @@
+-- What the working arrays hold after the first n records of a journal.
+-- Assumes nothing.
+use mathlib.Core.Path.{_≡_}
+use mathlib.Core.Bool.{cond}
+use mathlib.Core.List.{List}
+use mathlib.Core.Option.{none}
+use Prim.Native.Nat.{ℕ, _+_, _*_, _≤_, pred}
+use lib.Dec.{eqb}
+use lib.ListN.{length, getD, set}
+use Rattle.lists.specs.Tables.{tabulate, each}
+use Rattle.format.specs.Layout.{recordAt}
+use Rattle.model.specs.History.{History, Tag, tagIn}
+use Rattle.journal.specs.Journal.{items, history}
+use Rattle.journal.specs.Orders.{decide, recordOrder}
+use Rattle.rules.specs.Recent.{endCode, firstTag, lastWrite, baseWrite, readsSince, newest}
+
+-- ---- by transaction, 0 to 1,024
+
+-- its end: 0 none, 1 committed, 2 aborted
+unfoldable pub endsOf : History → List ℕ
+endsOf p = tabulate (endCode p) 0 1025
+
+-- its first record, 0 none
+unfoldable pub firstsOf : History → List ℕ
+firstsOf p = tabulate (firstTag p) 0 1025
+
+-- ---- by item, 0 to 1,023
+
+-- its last write, 0 none
+unfoldable pub writesOf : History → List ℕ
+writesOf p = tabulate (λ x. tagIn (lastWrite p x)) 0 1024
+
+-- the first write of it by the transaction that wrote it last, 0 none
+unfoldable pub basesOf : History → List ℕ
+basesOf p = tabulate (λ x. tagIn (baseWrite p x)) 0 1024
+
+-- its newest read since its last write, 0 none
+unfoldable pub readsOf : History → List ℕ
+readsOf p = tabulate (λ x. newest (readsSince x p)) 0 1024
+
+-- ---- by record, 0 to 3,200
+
+-- of a read, the newest read of the item before it since the item's last write, 0 none
+unfoldable pub readBefore : List ℕ → ℕ → Tag
+readBefore b k = newest (readsSince (recordAt b k .item .0) (history b (pred k)))
+
+pub record Linked (b : List ℕ) (n : ℕ) (l : List ℕ) : Type 0 where
+  pub size : length l ≡ 3201
+  pub link : (k : ℕ) → 1 ≤ k → k ≤ n → recordAt b k .kind ≡ 1 → getD l k 0 ≡ readBefore b k
+
+-- ---- records 1 to n pass 4 to 9
+
+pub record Ready (b : List ℕ) (n : ℕ) : Type 0 where
+  pub long : 20 * n + 20 ≤ length b
+  pub few : n ≤ 3200
+  pub items : items b ≤ 1024
+  pub passed : decide (each (recordOrder b) 1 n) ≡ none
+
+-- ---- what an array holds after the first n records
+
+abbrev pub Ended : List ℕ → ℕ → List ℕ → Type 0
+Ended b n l = l ≡ endsOf (history b n)
+
+abbrev pub Begun : List ℕ → ℕ → List ℕ → Type 0
+Begun b n l = l ≡ firstsOf (history b n)
+
+abbrev pub Written : List ℕ → ℕ → List ℕ → Type 0
+Written b n l = l ≡ writesOf (history b n)
+
+abbrev pub Based : List ℕ → ℕ → List ℕ → Type 0
+Based b n l = l ≡ basesOf (history b n)
+
+abbrev pub Sighted : List ℕ → ℕ → List ℕ → Type 0
+Sighted b n l = l ≡ readsOf (history b n)
+
+pub record State (b : List ℕ) (n : ℕ) (ends firsts writes bases reads links : List ℕ) : Type 0 where
+  pub ended : Ended b n ends
+  pub begun : Begun b n firsts
+  pub written : Written b n writes
+  pub based : Based b n bases
+  pub sighted : Sighted b n reads
+  pub linked : Linked b n links
+
+-- l with i at s, if 0 stands there
+unfoldable pub firstPut : List ℕ → ℕ → ℕ → List ℕ
+firstPut l s i = cond (eqb (getD l s 0) 0) (set l s i) l
