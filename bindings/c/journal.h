@@ -10,27 +10,51 @@
  * "post", chain is "slip", undo is "take-back"; surviving is "kept", undone "taken back", aborted "dropped"; status is "marks",
  * out is "paper", counts is "tally".
  *
+ * Layout. A journal is a run of 20-byte records, little-endian. Record 0 is the head, further records count from 1.
+ *
+ *     bytes   head                       record
+ *     0       0                          kind, see enum journal_kind
+ *     1       0                          0
+ *     2-3     0                          transaction, 1 to 1,024
+ *     4-7     record count, 0 to 3,200   next: the lowest later record with the same bytes 2-3, 0 if there is none
+ *     8-11    item count, 1 to 1,024     item, 0 to item count less 1; 0 for a commit or an abort
+ *     12-15   0                          before, signed; 0 but for a write
+ *     16-19   0                          after, signed; 0 but for a write
+ *
+ * Bytes behind the last record are not read. The table has one amount per item, in signed 32-bit whole pence.
+ *
+ * Terms. An end is a commit or an abort. A transaction is active from its first record to its end. At an abort each item that the
+ * transaction wrote returns to the before of its first write of it. The standing amount of an item follows all records so far, aborts
+ * included. Its opening amount is the before of its first write, or the table's amount if it has none. A read by T of an item is fed by
+ * the highest earlier write of that item whose transaction is T or has already committed, else by the opening amount; T reads from that
+ * write's transaction.
+ *
  * Every call. The result is the refusal's number, one of enum journal_reason, or 0 if the call is accepted. `answer` is always
  * written: with the refusal's place, or with what the call answers. A refused call writes to nothing else that it was lent. Any
  * length and any content of a loan is worked through or refused; no call reads or writes outside its loans.
  *
  * Loans. A loan is a pointer and the number of its elements behind it (not of bytes), lent for the time of the call. Every pointer
  * must be valid for that many elements and aligned for its element: 1 byte for journal, status and out, 2 for bad, 4 for table, lsns,
- * counts, surviving, undone and aborted, 8 for answer. What is read must be initialised; status, out, lsns and the bytes behind a
- * journal's last record need not be. No two loans of a call may overlap, `answer` and the counts included. None of this is checked.
+ * counts, surviving, undone and aborted, 8 for answer. What is read must be initialised; status, out, lsns, surviving,
+ * undone, aborted, answer, start's journal and the bytes behind a journal's last record need not be. No two loans of a call may overlap,
+ * `answer` and the counts included. None of this is checked.
  *
  * Null. A null pointer with length 0 is an empty loan, for every loan with a length: nothing is read or written through it. What
  * the calls give: 1 for journal, 3 for table, 13 for status, 14 for out and lsns (each unless a refusal before it applies); for bad
- * it is the empty list, which is accepted. This was tried for each loan of each call, under valgrind too, and is tried again at every
- * test (bindings/rust/tests/loans.rs). `counts`, `surviving`, `undone`, `aborted` and `answer` must not be null.
+ * it is the empty list, which is accepted. This is tried for each loan of each call at every test (bindings/rust/tests/loans.rs).
+ * `counts`, `surviving`, `undone`, `aborted` and `answer` must not be null.
  *
  * State. None is kept between calls: the archive has no writable data. So calls are reentrant and may run in several threads at
  * once. While a call runs, no other thread may touch what it writes, nor write what it reads.
  *
  * Memory. No call allocates; working arrays are on the stack. Measured use is below, JOURNAL_STACK_*.
  *
+ * Time. Append, check, chain and undo go over all records at each call (docs/PERFORMANCE.md has figures).
+ *
  * Crash. If the process or the machine stops during a call, what is lent to be written may be written in part. The caller guards
- * against that: call on a copy, store the copy under another name, then rename it.
+ * against that: call on copies in memory, then store journal and table (and the counts) together under another name, flush them to
+ * the disk, and put them in place by one rename, of one file or of one folder. Two renames are not enough: after an undo, the copy with
+ * the old table can pass journal_check with wrong amounts, since 10 looks at written items only.
  */
 #ifndef JOURNAL_H
 #define JOURNAL_H
@@ -104,8 +128,8 @@ enum journal_reason {
 /*
  * Bytes of stack that each call takes: measured, and rounded up to a multiple of 4,096 (start: 1,024). memcpy and memset of the C
  * library are included, signal handlers are not. bindings/c/stack.c measures on a painted stack, over days of 3,200 records with
- * 1,024 transactions and with one, damaged days and refused calls; it is run at every test and fails above these figures. The
- * frames in the disassembly add up to what it prints, less the 32 to 96 bytes of its own frame.
+ * 1,024 transactions and with one, damaged days and refused calls; it is run at every test and fails above these figures. What it
+ * prints includes 32 to 96 bytes of its own frame.
  */
 #define JOURNAL_STACK_START 1024
 #define JOURNAL_STACK_APPEND 36864
@@ -157,17 +181,20 @@ uint32_t journal_check(const uint8_t *journal, size_t journal_length, const int3
  *     It is not read.
  *
  * Refusals in order: 1 (under 20 bytes), 2, 1 (whole length); 4 to 9, the lowest record first, at one record the lowest number;
- * 12, 14. Places of 1, 2, 12 and 14 are 0.
+ * 12 (a transaction of 0 or above 1,024 too), 14. Places of 1, 2, 12 and 14 are 0.
  */
 uint32_t journal_chain(const uint8_t *journal, size_t journal_length, uint16_t transaction, uint32_t *lsns, size_t lsns_length,
                        uint64_t *answer);
 
 /*
  * Undoes the listed transactions and every committed transaction that read from them, directly or through others ("take-back").
- * Answers the bytes of the copy: the journal of the surviving transactions.
+ * Answers the bytes of the copy: a journal of the same items with just the surviving transactions' records, in order, renumbered, with
+ * next worked out again; those of undone and aborted transactions are left out. Copy and table left can be lent to the next call;
+ * transactions undone before are unknown there (12), so strike them from its list.
  *
  * journal: read only.
- * table: one amount per item; read, and written where accepted: with the amounts that the surviving transactions leave.
+ * table: one amount per item; read, and written where accepted: the opening amounts, with the after of every surviving write set in
+ *     record order.
  * bad: numbers of committed transactions; read only. It may be empty, and a number may be repeated.
  * status: written where accepted, all 1,025 bytes, see enum journal_status. It is not read.
  * out: written where accepted: as many bytes from the front as the call answers, at most those of the journal's records and head; the

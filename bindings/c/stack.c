@@ -101,7 +101,7 @@ static void append(uint8_t the_kind, uint32_t of_transaction, uint32_t the_item,
     run(APPEND, 0);
 }
 
-/* A finished journal that is full: check, chain and undo of it, then of it with its last record damaged, then a refused append. */
+/* A finished journal that is full: a refused append, check, chain; all four calls with the last record damaged; then undo. */
 static void full_day(void) {
     size_t last = JOURNAL_MAX_BYTES - JOURNAL_RECORD_BYTES;
     if (counts[0] + counts[1] + counts[2] + counts[3] != JOURNAL_MAX_RECORDS) fail("the day is not full");
@@ -138,7 +138,7 @@ int main(void) {
     for (listed = 0; listed < LIST; listed++) bad[listed] = (uint16_t)(LIST - listed);
     full_day();
 
-    /* One transaction of 3,200 records, aborted and then committed. */
+    /* One transaction of 3,200 records, committed and then aborted. */
     for (t = JOURNAL_KIND_COMMIT; t <= JOURNAL_KIND_ABORT; t++) {
         start(sizeof journal, JOURNAL_MAX_ITEMS);
         for (i = 0; i < JOURNAL_MAX_RECORDS / 2; i++) {

@@ -8,7 +8,10 @@
 //! place ([`Refusal`]); a refused call has written to nothing it was lent. No state is kept between
 //! calls, and none allocates: working arrays are on the stack, and `bindings/c/journal.h` says how much
 //! each call takes. If the process stops during a call, what is lent to be written may be written in
-//! part: work on a copy, then rename.
+//! part: work on copies, store journal and table together, and put both in place by one rename. The
+//! copy of an undo with the table of before can pass [`check`] with wrong amounts.
+//!
+//! The layout of a journal and the terms are in `bindings/c/journal.h`.
 //!
 //! ```
 //! use journal::{append, check, journal_bytes, kind, start, status, undo, Counts, STATUS_BYTES};
@@ -137,7 +140,8 @@ fn answered(number: u32, answer: u64) -> Result<u64, Refusal> {
 // SAFETY, for every call below: each pointer comes from a reference that lives through the call,
 // with the length of its slice, and the borrow rules keep what is written apart from all else.
 
-/// Starts a journal of this many items, without records. Writes the first 20 bytes of `journal`.
+/// Starts a journal of this many items, without records. Where accepted it writes the first 20 bytes
+/// of `journal`.
 ///
 /// # Errors
 ///

@@ -8,7 +8,8 @@
 //!
 //! For every function: each pointer is aligned and valid for its number of elements (`counts`: 4; a
 //! pointer without a length: 1) throughout the call, for writing too where it is `*mut`; and no two
-//! of them overlap. A null pointer with length 0 is an empty slice.
+//! of them overlap. What is read is initialised (`journal.h`). A null pointer with length 0 is an
+//! empty slice.
 
 extern "C" {
     /// Starts a journal; answers 0.

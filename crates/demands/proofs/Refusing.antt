@@ -392,7 +392,7 @@ pub lowest-place : LowestPlace
 unfolding check append undo
 lowest-place =
     record {
-      item = λ b t x e. item-lowest b t x (answered-refused (decide (checkOrder b t)) _ 10 x e);
+      checkItem = λ b t x e. item-lowest b t x (answered-refused (decide (checkOrder b t)) _ 10 x e);
       appendItem = λ b t c kind s v a x e.
           item-lowest b t x
           (append-check b t c (newRecord t kind s v a) 10 x (omega arith) (λ h. absurd (omega arith)) (answered-refused (decide (appendOrder b t c (newRecord t kind s v a))) tt 10 x e));

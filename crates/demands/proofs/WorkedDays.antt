@@ -452,7 +452,7 @@ one-unchained = refl
 -- items 1 and 2 do not stand as the table says, item 0 does
 pub lowest-item : unsettled example (pos 320 ∷ pos 1 ∷ pos 7 ∷ []) 0 ≡ false
 unfolding computed example
-lowest-item = lowest-place .item example (pos 320 ∷ pos 1 ∷ pos 7 ∷ []) 1 refl 0 (omega arith)
+lowest-item = lowest-place .checkItem example (pos 320 ∷ pos 1 ∷ pos 7 ∷ []) 1 refl 0 (omega arith)
 
 pub higher-item : unsettled example (pos 320 ∷ pos 1 ∷ pos 7 ∷ []) 2 ≡ true
 unfolding computed example

@@ -107,8 +107,8 @@ pub record LowestRecord : Type 0 where
 
 -- 10 gives the lowest such item, 11 the lowest such sale, 12 the lowest list position.
 pub record LowestPlace : Type 0 where
-  pub item : (b : List ℕ) (t : List Amount) (x : ℕ) → check b t ≡ refused 10 x → (y : ℕ) → y < x → unsettled b t y ≡ false
-  pub appendItem : (b : List ℕ) (t : List Amount) (c : Tally) (kind s v : ℕ) (a : Amount) (x : ℕ) → append b t c kind s v a .answer ≡ refused 10 x
+  pub checkItem : (b : List ℕ) (t : List Amount) (x : ℕ) → check b t ≡ refused 10 x → (y : ℕ) → y < x → unsettled b t y ≡ false
+  pub appendItem : (b : List ℕ) (t : List Amount) (c : Tally) (kind s key : ℕ) (a : Amount) (x : ℕ) → append b t c kind s key a .answer ≡ refused 10 x
       → (y : ℕ) → y < x → unsettled b t y ≡ false
   pub undoItem : (b : List ℕ) (t : List Amount) (bad status out : List ℕ) (x : ℕ) → undo b t bad status out .answer ≡ refused 10 x
       → (y : ℕ) → y < x → unsettled b t y ≡ false

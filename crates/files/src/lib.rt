@@ -64,13 +64,14 @@ fn load_from(folder: &[u8], name: &[u8], buf: &mut [u8]) -> Loaded
     load(&path[0..c], buf)
 }
 
-// What is read of a file.
+// Room for what is read of a file.
 fn buffer() -> [u8; 64020]
     ensures { λ r. ⌜ 64020 ≡ length r ⌝ }
 {
     [0; 64020]
 }
 
+// Prints the report on these bytes; its buffer has always room.
 fn print(journal: &[u8], table: &[u8], bad: &[u8]) {
     let mut out = [0u8; 100000];
     let printed = report::report_files(journal, table, bad, &mut out);
@@ -83,7 +84,8 @@ fn print(journal: &[u8], table: &[u8], bad: &[u8]) {
     os::fail(b"standard output");
 }
 
-// Prints the report on the three files of the folder. Where one is there and cannot be read, nothing is printed.
+// Prints the report on the three files of the folder. Where one is there and cannot be read, or the folder's name is too long, only a
+// message on standard error is printed.
 pub fn print_report(folder: &[u8]) {
     let mut journal = buffer();
     let Loaded::Bytes(j) = load_from(folder, b"journal.bin", &mut journal) else {

@@ -251,8 +251,7 @@ fn judge_added_write(
     }
 }
 
-// Rules 6 to 8 of r as record n + 1, after n records that passed; r is not malformed, its before image is right, and it need not stand
-// in the journal.
+// Rules 6 to 8 of r as record n + 1, after n records that passed; r is not malformed, and its before image is right.
 pub fn judge_added(
     journal: &[u8],
     n: usize,

@@ -101,7 +101,8 @@ fn check_record(
 
 // Records 1 to n by rules 4 to 9, in a journal whose head is right: the lowest record that breaks one is refused, by its lowest number.
 // The working arrays are lent as zeros. Where nothing is refused they hold, per transaction, its end and its first record; per item, its
-// last write, the first write by the same transaction and the newest read since; per read, the read before it (crate `rules`, specs/Arrays.antt).
+// last write, the first write by the same transaction and the newest read since; per read, the read before it (specs/Arrays.antt of
+// `rules`).
 pub fn records(
     journal: &[u8],
     n: usize,

@@ -93,8 +93,10 @@ impl Appending<'_> {
     }
 }
 
-/// The plain calls but for these two.
+/// The plain calls but for these.
 struct Wrong {
+    check: fn(&[u8], &[i32]) -> Result<u32, Refusal>,
+    chain: fn(&[u8], u16, &mut [u32]) -> Result<u32, Refusal>,
     append: fn(Appending) -> Result<(), Refusal>,
     undo: fn(Undoing) -> Result<Undone, Refusal>,
 }
@@ -128,11 +130,11 @@ impl Implementation for Wrong {
     }
 
     fn check(&self, journal: &[u8], table: &[i32]) -> Result<u32, Refusal> {
-        plain::check(journal, table)
+        (self.check)(journal, table)
     }
 
     fn chain(&self, journal: &[u8], transaction: u16, lsns: &mut [u32]) -> Result<u32, Refusal> {
-        plain::chain(journal, transaction, lsns)
+        (self.chain)(journal, transaction, lsns)
     }
 
     fn undo(
@@ -157,6 +159,15 @@ impl Implementation for Wrong {
     }
 }
 
+fn right() -> Wrong {
+    Wrong {
+        check: plain::check,
+        chain: plain::chain,
+        append: |mut given| given.right(),
+        undo: |given| given.right(),
+    }
+}
+
 /// The property fails on one of the first seeds.
 fn is_seen(holds: fn(&Wrong, u64) -> u64, wrong: Wrong) {
     let fails = |seed| catch_unwind(AssertUnwindSafe(|| holds(&wrong, seed))).is_err();
@@ -164,13 +175,11 @@ fn is_seen(holds: fn(&Wrong, u64) -> u64, wrong: Wrong) {
 }
 
 fn undo_is_seen(holds: fn(&Wrong, u64) -> u64, undo: fn(Undoing) -> Result<Undone, Refusal>) {
-    let append = |mut given: Appending| given.right();
-    is_seen(holds, Wrong { append, undo });
+    is_seen(holds, Wrong { undo, ..right() });
 }
 
 fn append_is_seen(holds: fn(&Wrong, u64) -> u64, append: fn(Appending) -> Result<(), Refusal>) {
-    let undo = |given: Undoing| given.right();
-    is_seen(holds, Wrong { append, undo });
+    is_seen(holds, Wrong { append, ..right() });
 }
 
 fn once(names: &[u16]) -> Vec<u16> {
@@ -340,4 +349,73 @@ fn counting_a_refused_record() {
         answer
     };
     append_is_seen(appends_build_what_check_accepts, counting);
+}
+
+#[test]
+fn counting_no_active_ones() {
+    let check = |journal: &[u8], table: &[i32]| plain::check(journal, table).map(|_| 0);
+    is_seen(days_as_built_pass, Wrong { check, ..right() });
+}
+
+#[test]
+fn visiting_one_record_less() {
+    let chain = |journal: &[u8], transaction: u16, lsns: &mut [u32]| {
+        plain::chain(journal, transaction, lsns).map(|visited| visited.max(2) - 1)
+    };
+    is_seen(
+        chains_are_the_records_of_a_transaction,
+        Wrong { chain, ..right() },
+    );
+}
+
+#[test]
+fn keeping_writes_ahead_of_the_bad_read() {
+    let ahead = |mut given: Undoing| {
+        let history = History::of(given.journal);
+        let records = &history.records;
+        let initial = history.initial(given.table);
+        let answer = given.again().right()?;
+        let fed = plain::removal(given.journal, &[]);
+        let by = |lsn: u32| records[lsn as usize].transaction;
+        let status = &given.status;
+        let bad_read = |t: u16| {
+            let bad = |w: u32| by(w) != t && status[by(w) as usize] == 2;
+            fed.iter()
+                .find(|(read, write)| by(*read) == t && write.is_some_and(bad))
+        };
+        given.table.copy_from_slice(&initial);
+        for (lsn, r) in records.iter().enumerate().skip(1) {
+            let kept = match status[r.transaction as usize] {
+                1 => true,
+                2 if !given.bad.contains(&r.transaction) => {
+                    bad_read(r.transaction).is_some_and(|(read, _)| lsn < *read as usize)
+                }
+                _ => false,
+            };
+            if r.is_write() && kept {
+                given.table[r.item as usize] = r.after;
+            }
+        }
+        Ok(answer)
+    };
+    undo_is_seen(what_is_left_is_the_models, ahead);
+}
+
+#[test]
+fn passing_over_unknown_names() {
+    let lenient = |mut given: Undoing| {
+        let commits = match given.again().right() {
+            Err(refusal) if refusal.number == 12 => History::of(given.journal).commits(),
+            answer => return answer,
+        };
+        let mut known = given.bad.to_vec();
+        known.retain(|name| commits.contains(name));
+        Undoing {
+            bad: &known,
+            ..given
+        }
+        .right()
+    };
+    undo_is_seen(which_lists_undo_accepts, lenient);
+    undo_is_seen(incremental_repair_equals_one_call, lenient);
 }

@@ -28,10 +28,32 @@ fn refused_calls_pass_on(sequence: &UndoSequence, steps: &[UndoStep]) {
     }
 }
 
+/// At every call of a sequence a list is accepted exactly if it names only committed transactions
+/// of what the call got, the status vector has 1,025 bytes and the output buffer holds the copy.
+fn each_call_accepts_as_it_must(
+    calls: &impl Implementation,
+    sequence: &UndoSequence,
+    steps: &[UndoStep],
+) {
+    let (mut journal, mut table) = (sequence.journal.clone(), sequence.table.clone());
+    for (call, step) in sequence.calls.iter().zip(steps) {
+        let commits = History::of(&journal).commits();
+        let fits = call.status.len() == 1_025 && step.bad.iter().all(|name| commits.contains(name));
+        let copy = || repair(calls, &journal, &table, &step.bad).repaired.len();
+        let accepts = fits && call.out.len() >= copy();
+        assert_eq!(step.answer.answer.is_ok(), accepts);
+        if let Ok(answer) = step.answer.answer {
+            journal = step.answer.out[..answer.bytes as usize].to_vec();
+            table.clone_from(&step.answer.table);
+        }
+    }
+}
+
 /// Compares a sequence of undo calls with one call; answers how many calls were accepted.
 pub fn compare_with_one_call(calls: &impl Implementation, sequence: &UndoSequence) -> usize {
     let steps = undos_in_turn(calls, sequence);
     refused_calls_pass_on(sequence, &steps);
+    each_call_accepts_as_it_must(calls, sequence, &steps);
     let accepted: Vec<&UndoStep> = steps
         .iter()
         .filter(|step| step.answer.answer.is_ok())

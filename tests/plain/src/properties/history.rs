@@ -1,4 +1,5 @@
-//! A journal that passes, seen through its records alone: nothing here is shared with the calls.
+//! A journal that passes, seen through its records alone. Only the layout and the links
+//! (`crate::format`) are shared with the plain calls.
 
 use crate::format::*;
 

@@ -18,7 +18,7 @@ struct Property<I> {
     holds: fn(&I, u64) -> u64,
 }
 
-fn all<I: Implementation>() -> [Property<I>; 9] {
+fn all<I: Implementation>() -> [Property<I>; 10] {
     let property = |name, seeds, cases, holds| Property {
         name,
         seeds,
@@ -43,6 +43,12 @@ fn all<I: Implementation>() -> [Property<I>; 9] {
             3_000,
             1_000,
             posting::journals_that_pass_can_be_rebuilt,
+        ),
+        property(
+            "chains are the records of a transaction",
+            2_000,
+            2_000,
+            posting::chains_are_the_records_of_a_transaction,
         ),
         property(
             "which lists undo accepts",

@@ -100,3 +100,25 @@ pub fn journals_that_pass_can_be_rebuilt(calls: &impl Implementation, seed: u64)
     assert_eq!(table, day.table);
     1
 }
+
+/// Slip visits just the transaction's records, in order, and writes nothing behind them. A case is
+/// a transaction.
+pub fn chains_are_the_records_of_a_transaction(calls: &impl Implementation, seed: u64) -> u64 {
+    let Some(day) = intact_day(seed) else {
+        return 0;
+    };
+    let records = History::of(&day.journal).records;
+    let mut numbers: Vec<u16> = records[1..].iter().map(|r| r.transaction).collect();
+    numbers.sort();
+    numbers.dedup();
+    for &t in &numbers {
+        let own = (1..records.len()).filter(|&i| records[i].transaction == t);
+        let mut expected: Vec<u32> = own.map(|i| i as u32).collect();
+        let mut lsns = vec![0xAAAA_AAAA; expected.len() + 1];
+        let visited = calls.chain(&day.journal, t, &mut lsns);
+        assert_eq!(visited, Ok(expected.len() as u32));
+        expected.push(0xAAAA_AAAA);
+        assert_eq!(lsns, expected);
+    }
+    numbers.len() as u64
+}

@@ -99,7 +99,9 @@ impl Sets {
 
 /// The fewest transactions, by trying all sets: each set of committed transactions that contains
 /// the list, and whose removal leaves the reads of the remaining ones alone, contains all the
-/// undone ones; and these are such a set. A case is a list held against all sets.
+/// undone ones; and these are such a set. Up to six committed transactions removal itself is tried
+/// on each set; up to ten its equivalent, that the set is closed under reads-from. A case is a list
+/// held against all sets.
 pub fn undone_set_is_the_least(calls: &impl Implementation, seed: u64) -> u64 {
     let UndoSequence { journal, table, .. } = undo_sequence(seed);
     let history = History::of(&journal);
