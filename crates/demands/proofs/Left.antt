@@ -31,11 +31,12 @@ use Rattle.journal.specs.Journal.{count, items, txIn, records, whole, amountAt}
 use Rattle.journal.specs.Refusals.{short, torn, badHead, wrongTable, malformed, unsettled}
 use Rattle.journal.specs.Copy.{linkedTo, copyRecords, copy}
 use Rattle.journal.specs.Calls.{openingAt, openingTable, tableLeft}
-use Rattle.journal.proofs.Records.{opsOf, Each, each-map, each-both, records-each, opsOf-records, opsOf-copied, copied-linked, copied-each, length-copied, length-records, length-opsOf}
-use Rattle.journal.proofs.Encoded.{length-journalOf, journalOf-bytes, head-journalOf, count-journalOf, items-journalOf, journalOf-each, records-journalOf, whole-journalOf}
+use Rattle.journal.proofs.Records.{opsOf, Each, each-map, each-both, records-each, opsOf-records, opsOf-copied, copied-linked, copied-each, length-opsOf}
+use Rattle.journal.proofs.Encoded.{journalOf-bytes, head-journalOf, count-journalOf, items-journalOf, journalOf-each, records-journalOf, whole-journalOf}
 use Rattle.journal.proofs.Checked.{Sound, Checks}
 use Rattle.journal.proofs.Passing.{passing-whole, sound-from, head-facts, HeadFacts}
 use Rattle.journal.proofs.Unrefused.{table-length, next-chained}
+use Rattle.demands.proofs.CopyLaws.{copy-few, copy-length}
 
 -- a record fits, its next aside
 abbrev Body : Record → Type 0
@@ -68,11 +69,6 @@ module _ (b : List ℕ) (t : List Amount) (bytes : Bytes b) (ok : Checks b t) wh
         opsOf-copied (surviving bad (whole b)) (repaired bad (whole b)) (records b (count b))
         ∙ ap (λ p. renumber (only (surviving bad (whole b)) p)) (opsOf-records b (count b))
 
-    pub copy-few : length (copyRecords bad b) ≤ count b
-    unfolding copyRecords
-    copy-few =
-        let l = length-copied (surviving bad (whole b)) (repaired bad (whole b)) (records b (count b)) in omega (arith, length-records b (count b))
-
     linked : Each (λ i r. r .next .0 ≡ nextIn (repaired bad (whole b)) i (txIn r)) (copyRecords bad b)
     unfolding copyRecords
     linked = copied-linked (surviving bad (whole b)) (repaired bad (whole b)) (records b (count b))
@@ -81,7 +77,7 @@ module _ (b : List ℕ) (t : List Amount) (bytes : Bytes b) (ok : Checks b t) wh
     next-few i s =
         let l : length (survivors bad (whole b)) ≡ length (copyRecords bad b) =
         sym (length-renumber (survivors bad (whole b))) ∙ ap length (sym copy-ops) ∙ length-opsOf (copyRecords bad b) in
-        omega (arith, first-tag (laterOf i s) (repaired bad (whole b)) (renumber-numbered (survivors bad (whole b))), length-renumber (survivors bad (whole b)), copy-few, facts .few)
+        omega (arith, first-tag (laterOf i s) (repaired bad (whole b)) (renumber-numbered (survivors bad (whole b))), length-renumber (survivors bad (whole b)), copy-few bad b, facts .few)
 
     bodies : Each (λ i r. Body r) (copyRecords bad b)
     unfolding copyRecords
@@ -107,7 +103,7 @@ module _ (b : List ℕ) (t : List Amount) (bytes : Bytes b) (ok : Checks b t) wh
     -- ---- the copy's head and history
 
     few : length (copyRecords bad b) < 4294967296
-    few = omega (arith, copy-few, facts .few)
+    few = omega (arith, copy-few bad b, facts .few)
 
     some-items : items b < 4294967296
     some-items = omega (arith, facts .most)
@@ -119,10 +115,6 @@ module _ (b : List ℕ) (t : List Amount) (bytes : Bytes b) (ok : Checks b t) wh
     pub copy-items : items (copy bad b) ≡ items b
     unfolding copy
     copy-items = items-journalOf (items b) (copyRecords bad b) few some-items
-
-    pub copy-length : length (copy bad b) ≡ 20 * (length (copyRecords bad b) + 1)
-    unfolding copy
-    copy-length = length-journalOf (items b) (copyRecords bad b)
 
     pub copy-bytes : Bytes (copy bad b)
     unfolding copy
@@ -160,18 +152,18 @@ module _ (b : List ℕ) (t : List Amount) (bytes : Bytes b) (ok : Checks b t) wh
     head-right : badHead (copy bad b) ≡ false
     unfolding badHead copy
     head-right =
-        let e1 : leb (length (copyRecords bad b)) 3200 ≡ true = le-leb (length (copyRecords bad b)) 3200 (omega (arith, copy-few, facts .few)) in
+        let e1 : leb (length (copyRecords bad b)) 3200 ≡ true = le-leb (length (copyRecords bad b)) 3200 (omega (arith, copy-few bad b, facts .few)) in
         let e2 : leb 1 (items b) ≡ true = le-leb _ _ (facts .some) in
         let e3 : leb (items b) 1024 ≡ true = le-leb _ _ (facts .most) in
         rw (head-journalOf (items b) (copyRecords bad b) few some-items) (rw (e1, e2, e3))
 
     long : short (copy bad b) ≡ false
     unfolding short
-    long = le-ltb (length (copy bad b)) 20 (omega (arith, copy-length))
+    long = le-ltb (length (copy bad b)) 20 (omega (arith, copy-length bad b))
 
     full : torn (copy bad b) ≡ false
     unfolding torn
-    full = le-ltb (length (copy bad b)) (20 * (count (copy bad b) + 1)) (omega (arith, copy-length, copy-count))
+    full = le-ltb (length (copy bad b)) (20 * (count (copy bad b) + 1)) (omega (arith, copy-length bad b, copy-count))
 
     each-record : (P : ℕ → Record → Type 0) → Each P (copyRecords bad b) → (i : ℕ) → i < count (copy bad b) → P (suc i) (recordAt (copy bad b) (suc i))
     unfolding copy

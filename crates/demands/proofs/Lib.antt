@@ -1,3 +1,4 @@
+pub mod CopyLaws
 pub mod DaysLaws
 pub mod Left
 pub mod Undone

@@ -13,18 +13,16 @@ use borrow.Author.Tests.{ltb-true}
 use Rattle.lists.proofs.BoolLaws.{byCases, clash}
 use Rattle.format.specs.declared.Record.{Record}
 use Rattle.model.specs.History.{Amount}
-use Rattle.model.specs.Undo.{surviving, repaired}
-use Rattle.journal.specs.Journal.{count, items, opOf, records, whole}
+use Rattle.journal.specs.Journal.{count, items, opOf, whole}
 use Rattle.journal.specs.Refusals.{Tally, badHead, unsettled, stillActive, unknown, absent, malformed, closed, crossed, blind, noRoom, wrongTally, tooShort, wrongStatus}
 use Rattle.journal.specs.Orders.{Refusal, Trial, Order, try, decide, openOrder, recordOrder, recordsOrder, tableOrder, settledOrder, startOrder, checkOrder, chainOrder, appendOrder, undoOrder}
-use Rattle.journal.specs.Copy.{copyRecords, copy}
+use Rattle.journal.specs.Copy.{copy}
 use Rattle.journal.specs.Calls.{refused, answered, start, check, chainOf, chain, newRecord, append, undo}
 use Rattle.journal.proofs.Clear.{All, all-append, all-try, all-each, decide-all, try-clear, decide-clear}
 use Rattle.journal.proofs.Checked.{clear-checks}
-use Rattle.journal.proofs.Encoded.{length-journalOf}
 use Rattle.journal.proofs.Passing.{head-facts}
-use Rattle.journal.proofs.Records.{length-copied, length-records}
 use Rattle.journal.proofs.OrdersLaws.{decide-append-none, decide-append-some, decide-cases, decide-each}
+use Rattle.demands.proofs.CopyLaws.{copy-most}
 use Rattle.demands.proofs.DaysLaws.{answered-some, answered-refused}
 use Rattle.demands.specs.Refusing.{First, here, later, Exactly, Unsound, by-short, by-torn, by-head, by-smudge, by-chain, by-closed, by-crossed, by-blind, by-before, Unpassed, by-unsound, by-table, by-close, Unstarted, by-bytes, by-items, Unwalked, unsound-walk, by-absent, by-list, Unposted, unpassed-post, by-tally, new-smudge, new-closed, new-crossed, new-blind, by-room, Untaken, unpassed-undo, by-open, by-marks, by-unknown, by-paper, OnlyUnder, LowestRecord, Untouched, Lowest, LowestPlace, Enough}
 
@@ -429,12 +427,9 @@ module _ (b : List ℕ) (t : List Amount) (bad status out : List ℕ) where
   check-low : All (Means Low) (checkOrder b t)
   check-low = means-more (λ n p u. omega (arith, unpassed-number u)) (check-means b t)
 
-  -- the copy has no more records than the journal
   copy-fits : badHead b ≡ false → 64020 ≤ length out → tooShort out (length (copy bad b)) ≡ true → ⊥
-  unfolding tooShort copy copyRecords
-  copy-fits h room e =
-      let l = length-copied (surviving bad (whole b)) (repaired bad (whole b)) (records b (count b)) in
-      omega (arith, ltb-true (length out) (length (copy bad b)) e, length-journalOf (items b) (copyRecords bad b), l, length-records b (count b), head-facts b h .few)
+  unfolding tooShort
+  copy-fits h room e = omega (arith, ltb-true (length out) (length (copy bad b)) e, copy-most bad b, head-facts b h .few)
 
   undo-low : badHead b ≡ false → length status ≡ 1025 → 64020 ≤ length out → All (Means Low) (undoOrder b t bad status out (length (copy bad b)))
   unfolding undoOrder wrongStatus

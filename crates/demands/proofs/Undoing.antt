@@ -33,7 +33,8 @@ use Rattle.demands.specs.Days.{accepts, Day}
 use Rattle.demands.specs.Undoing.{Accepting, Acceptance, CopyFits, NeverShort, copyIn, LeftPasses, markOf, UndoSet, LeastSet, FewestSales, Fewest}
 use Rattle.demands.specs.Refusing.{Untaken, unpassed-undo, by-open, by-marks, by-unknown, by-paper}
 use Rattle.demands.proofs.Refusing.{only-under, unpassed-number}
-use Rattle.demands.proofs.Left.{legal-day, copy-few, copy-length, copy-bytes, copy-checks, copy-openingTable, copy-ended, copy-count}
+use Rattle.demands.proofs.CopyLaws.{copy-length, copy-most}
+use Rattle.demands.proofs.Left.{legal-day, copy-bytes, copy-checks, copy-openingTable, copy-ended, copy-count}
 use Rattle.demands.proofs.DaysLaws.{pass-checks, checks-pass}
 use Rattle.demands.proofs.Undone.{clear-accepting, accepting-clear, undo-accepts, undo-answer, undo-table, undo-status, undo-copy, undo-behind, accepted-clear}
 
@@ -63,8 +64,7 @@ acceptance b t bad status out d = (
 )
 
 pub copy-fits : CopyFits
-copy-fits b t bad d =
-    let k = pass-checks b t (d .pass) in omega (arith, copy-length b t (d .bytes) k bad, copy-few b t (d .bytes) k bad)
+copy-fits b t bad d = copy-most bad b
 
 -- what refuses take-back by 14
 untaken-14 : {b : List ℕ} {t : List Amount} {bad status out : List ℕ} {n p : ℕ} → Untaken b t bad status out n p → n ≡ 14 → tooShort out (length (copy bad b)) ≡ true
@@ -99,7 +99,7 @@ left-passes b t bad status out n a =
             finished = copy-ended b t (a .day .bytes) k bad;
           });
       opening = rw (q, undo-table b t bad status out c) (copy-openingTable b t (a .day .bytes) k bad);
-      size = ap (λ m. m .bytes) (sym e) ∙ bytes-copy bad b ∙ copy-length b t (a .day .bytes) k bad ∙ ap (λ m. 20 * (m + 1)) (sym (ap count q ∙ copy-count b t (a .day .bytes) k bad));
+      size = ap (λ m. m .bytes) (sym e) ∙ bytes-copy bad b ∙ copy-length bad b ∙ ap (λ m. 20 * (m + 1)) (sym (ap count q ∙ copy-count b t (a .day .bytes) k bad));
       behind = rw (← e) (undo-behind b t bad status out c);
     }
 
