@@ -47,7 +47,7 @@ int main(void) {
     int32_t table[] = {500, 0, 1000};
     uint32_t counts[JOURNAL_COUNTS] = {0}, lsns[COUNT(day)], surviving, undone, aborted, number;
     const uint16_t unknown[] = {4}, bad[] = {1};
-    uint64_t answer;
+    uint64_t answer = 0;
     size_t i;
 
     number = journal_start(journal, sizeof journal, COUNT(table), &answer);
@@ -75,7 +75,7 @@ int main(void) {
 
     number = journal_undo(journal, sizeof journal, table, COUNT(table), unknown, COUNT(unknown), status, sizeof status, out, sizeof out,
                           &surviving, &undone, &aborted, &answer);
-    if (number != 0) printf("undo of 4: refused, %s, place %" PRIu64 "\n", journal_refusal_word(number), answer);
+    if (number != 0) printf("undo of 4: refused, %s, %s %" PRIu64 "\n", journal_refusal_word(number), journal_place_word(number), answer);
     number = journal_undo(journal, sizeof journal, table, COUNT(table), bad, COUNT(bad), status, sizeof status, out, sizeof out,
                           &surviving, &undone, &aborted, &answer);
     accept(number, answer);

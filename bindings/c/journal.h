@@ -29,20 +29,31 @@
  * the highest earlier write of that item whose transaction is T or has already committed, else by the opening amount; T reads from that
  * write's transaction.
  *
- * Every call. The result is the refusal's number, one of enum journal_reason, or 0 if the call is accepted. `answer` is always
- * written: with the refusal's place, or with what the call answers. A refused call writes to nothing else that it was lent. Any
- * length and any content of a loan is worked through or refused; no call reads or writes outside its loans.
+ * Every call. The result is the refusal's number, one of enum journal_reason, or 0 if the call is accepted. `answer` is written in
+ * both cases: with the refusal's place, or with what the call answers. A refused call writes to nothing else that it was lent. Any
+ * length and any content of a loan is worked through or refused; no call reads or writes outside its loans. Only 101 is otherwise,
+ * see "Checked calls". The compiler warns where a result is not used.
  *
  * Loans. A loan is a pointer and the number of its elements behind it (not of bytes), lent for the time of the call. Every pointer
  * must be valid for that many elements and aligned for its element: 1 byte for journal, status and out, 2 for bad, 4 for table, lsns,
  * counts, surviving, undone and aborted, 8 for answer. What is read must be initialised; status, out, lsns, surviving,
- * undone, aborted, answer, start's journal and the bytes behind a journal's last record need not be. No two loans of a call may overlap,
- * `answer` and the counts included. None of this is checked.
+ * undone, aborted, answer, start's journal and the bytes behind a journal's last record need not be. A loan that the call writes must
+ * not overlap any other of its loans; `answer`, counts, surviving, undone and aborted are written.
+ *
+ * In place. So there is no undo in place: out must not be the journal. The library alone would accept out == journal, write the copy
+ * over the records from which the table is still to be worked out, and leave wrong amounts that journal_check passes. Lend an out of its
+ * own, and copy it over the journal after the call where the journal is to be replaced.
+ *
+ * Checked calls. Under the usual names stand checked forms of the calls. They return JOURNAL_REASON_LOANS (101, "loans") where a written
+ * loan overlaps another, a pointer is not aligned, is null with a length above 0, or has a length that runs past the last address. Then
+ * nothing is written, `answer` neither, and the library is not called. An empty loan overlaps nothing. That a pointer is valid for its
+ * length cannot be checked. Where JOURNAL_UNCHECKED is defined before this file is read, the usual names are the library's functions,
+ * which check none of this.
  *
  * Null. A null pointer with length 0 is an empty loan, for every loan with a length: nothing is read or written through it. What
  * the calls give: 1 for journal, 3 for table, 13 for status, 14 for out and lsns (each unless a refusal before it applies); for bad
  * it is the empty list, which is accepted. This is tried for each loan of each call at every test (bindings/rust/tests/loans.rs).
- * `counts`, `surviving`, `undone`, `aborted` and `answer` must not be null.
+ * `counts`, `surviving`, `undone`, `aborted` and `answer` must not be null (101).
  *
  * State. None is kept between calls: the archive has no writable data. So calls are reentrant and may run in several threads at
  * once. While a call runs, no other thread may touch what it writes, nor write what it reads.
@@ -54,7 +65,7 @@
  * Crash. If the process or the machine stops during a call, what is lent to be written may be written in part. The caller guards
  * against that: call on copies in memory, then store journal and table (and the counts) together under another name, flush them to
  * the disk, and put them in place by one rename, of one file or of one folder. Two renames are not enough: after an undo, the copy with
- * the old table can pass journal_check with wrong amounts, since 10 looks at written items only.
+ * the old table can pass journal_check with wrong amounts, since 10 looks at written items only. bindings/rust/examples/keep.rs does so.
  */
 #ifndef JOURNAL_H
 #define JOURNAL_H
@@ -64,6 +75,15 @@
 
 #ifdef __cplusplus
 extern "C" {
+#endif
+
+/* A function whose result must be used, where the compiler can warn. */
+#if defined(__GNUC__)
+#define JOURNAL_MUST_USE __attribute__((warn_unused_result))
+#elif (defined(__cplusplus) && __cplusplus >= 201703L) || (defined(__STDC_VERSION__) && __STDC_VERSION__ >= 202311L)
+#define JOURNAL_MUST_USE [[nodiscard]]
+#else
+#define JOURNAL_MUST_USE
 #endif
 
 /* Limits. */
@@ -122,14 +142,14 @@ enum journal_reason {
     JOURNAL_REASON_STATUS_LENGTH = 13, /* marks: length is not 1,025; place 0 */
     JOURNAL_REASON_CAPACITY = 14,      /* paper: out or lsns is shorter than needed; in append 3,200 records already, or under 20
                                           bytes left behind the last record; place 0 */
-    JOURNAL_REASON_COUNTS = 15         /* tally: the counts differ from the journal; place 0 */
+    JOURNAL_REASON_COUNTS = 15,        /* tally: the counts differ from the journal; place 0 */
+    JOURNAL_REASON_LOANS = 101         /* loans: of the checked forms alone, see "Loans" above; no place, `answer` is not written */
 };
 
 /*
- * Bytes of stack that each call takes: measured, and rounded up to a multiple of 4,096 (start: 1,024). memcpy and memset of the C
- * library are included, signal handlers are not. bindings/c/stack.c measures on a painted stack, over days of 3,200 records with
- * 1,024 transactions and with one, damaged days and refused calls; it is run at every test and fails above these figures. What it
- * prints includes 32 to 96 bytes of its own frame.
+ * Bytes of stack that each call takes: measured, and rounded up to a multiple of 4,096 (start: 1,024). The checked form and memcpy and
+ * memset of the C library are included, signal handlers are not. bindings/c/stack.c measures on a painted stack, over days of 3,200
+ * records with 1,024 transactions and with one, damaged days and refused calls; it is run at every test and fails above these figures.
  */
 #define JOURNAL_STACK_START 1024
 #define JOURNAL_STACK_APPEND 36864
@@ -144,6 +164,7 @@ enum journal_reason {
  *
  * Refusals in order: 1 (under 20 bytes), 2 (items is 0 or above 1,024). Place 0.
  */
+JOURNAL_MUST_USE
 uint32_t journal_start(uint8_t *journal, size_t journal_length, uint32_t items, uint64_t *answer);
 
 /*
@@ -160,6 +181,7 @@ uint32_t journal_start(uint8_t *journal, size_t journal_length, uint32_t items, 
  * Refusals in order: 1 (under 20 bytes), 2, 1 (whole length), 3; 4 to 9, the lowest record first, at one record the lowest number;
  * 10, 15; then for the new record 4, 6, 7, 8, with place record count + 1; 14. Places of 1, 2, 3, 14 and 15 are 0.
  */
+JOURNAL_MUST_USE
 uint32_t journal_append(uint8_t *journal, size_t journal_length, int32_t *table, size_t table_length, uint32_t counts[JOURNAL_COUNTS],
                         uint8_t kind, uint16_t transaction, uint32_t item, int32_t after, uint64_t *answer);
 
@@ -171,6 +193,7 @@ uint32_t journal_append(uint8_t *journal, size_t journal_length, int32_t *table,
  * Refusals in order: 1 (under 20 bytes), 2, 1 (whole length), 3; 4 to 9, the lowest record first, at one record the lowest number;
  * 10. Places of 1, 2 and 3 are 0.
  */
+JOURNAL_MUST_USE
 uint32_t journal_check(const uint8_t *journal, size_t journal_length, const int32_t *table, size_t table_length, uint64_t *answer);
 
 /*
@@ -183,6 +206,7 @@ uint32_t journal_check(const uint8_t *journal, size_t journal_length, const int3
  * Refusals in order: 1 (under 20 bytes), 2, 1 (whole length); 4 to 9, the lowest record first, at one record the lowest number;
  * 12 (a transaction of 0 or above 1,024 too), 14. Places of 1, 2, 12 and 14 are 0.
  */
+JOURNAL_MUST_USE
 uint32_t journal_chain(const uint8_t *journal, size_t journal_length, uint16_t transaction, uint32_t *lsns, size_t lsns_length,
                        uint64_t *answer);
 
@@ -204,6 +228,7 @@ uint32_t journal_chain(const uint8_t *journal, size_t journal_length, uint16_t t
  * Refusals in order: 1 (under 20 bytes), 2, 1 (whole length), 3; 4 to 9, the lowest record first, at one record the lowest number;
  * 10, 11, 13, 12, 14. Places of 1, 2, 3, 13 and 14 are 0.
  */
+JOURNAL_MUST_USE
 uint32_t journal_undo(const uint8_t *journal, size_t journal_length, int32_t *table, size_t table_length, const uint16_t *bad,
                       size_t bad_length, uint8_t *status, size_t status_length, uint8_t *out, size_t out_length, uint32_t *surviving,
                       uint32_t *undone, uint32_t *aborted, uint64_t *answer);
@@ -227,9 +252,187 @@ static inline const char *journal_refusal_word(uint32_t number) {
     case JOURNAL_REASON_STATUS_LENGTH: return "marks";
     case JOURNAL_REASON_CAPACITY: return "paper";
     case JOURNAL_REASON_COUNTS: return "tally";
+    case JOURNAL_REASON_LOANS: return "loans";
     default: return "?";
     }
 }
+
+/* What the place of a refusal of this number is: "record", "item", "sale" or "position"; "" where it is always 0. In chain the place of
+   12 is 0 and no position. */
+static inline const char *journal_place_word(uint32_t number) {
+    switch (number) {
+    case JOURNAL_REASON_MALFORMED:
+    case JOURNAL_REASON_CHAIN:
+    case JOURNAL_REASON_CLOSED:
+    case JOURNAL_REASON_CONFLICT:
+    case JOURNAL_REASON_BLIND:
+    case JOURNAL_REASON_BEFORE_IMAGE: return "record";
+    case JOURNAL_REASON_FINAL_STATE: return "item";
+    case JOURNAL_REASON_ACTIVE: return "sale";
+    case JOURNAL_REASON_UNKNOWN: return "position";
+    default: return "";
+    }
+}
+
+/*
+ * Reading a journal's bytes. Nothing is checked but the length: journal_check says whether the fields are right.
+ */
+
+/* The two counts of a head. */
+struct journal_head {
+    uint32_t records, items;
+};
+
+/* The fields of a record, by the layout above. */
+struct journal_record {
+    uint8_t kind, byte_1;
+    uint16_t transaction;
+    uint32_t next, item;
+    int32_t before, after;
+};
+
+/* Little-endian numbers. */
+static inline uint32_t journal_u32(const uint8_t *bytes) {
+    return (uint32_t)bytes[0] | (uint32_t)bytes[1] << 8 | (uint32_t)bytes[2] << 16 | (uint32_t)bytes[3] << 24;
+}
+
+static inline int32_t journal_i32(const uint8_t *bytes) {
+    uint32_t number = journal_u32(bytes);
+    return number <= INT32_MAX ? (int32_t)number : -1 - (int32_t)(UINT32_MAX - number);
+}
+
+/* Reads the head; 0 where there are fewer than 20 bytes, and then nothing is written. */
+JOURNAL_MUST_USE
+static inline int journal_head_of(const uint8_t *journal, size_t journal_length, struct journal_head *head) {
+    if (journal_length < JOURNAL_RECORD_BYTES) return 0;
+    head->records = journal_u32(journal + 4);
+    head->items = journal_u32(journal + 8);
+    return 1;
+}
+
+/* Reads the record of this number, from 1 (0 is the head); 0 where its 20 bytes are not there, and then nothing is written. */
+JOURNAL_MUST_USE
+static inline int journal_record_at(const uint8_t *journal, size_t journal_length, uint32_t lsn, struct journal_record *record) {
+    const uint8_t *bytes;
+    if (journal_length / JOURNAL_RECORD_BYTES <= lsn) return 0;
+    bytes = journal + (size_t)lsn * JOURNAL_RECORD_BYTES;
+    record->kind = bytes[0];
+    record->byte_1 = bytes[1];
+    record->transaction = (uint16_t)(bytes[2] | bytes[3] << 8);
+    record->next = journal_u32(bytes + 4);
+    record->item = journal_u32(bytes + 8);
+    record->before = journal_i32(bytes + 12);
+    record->after = journal_i32(bytes + 16);
+    return 1;
+}
+
+/*
+ * The checked forms.
+ */
+#ifndef JOURNAL_UNCHECKED
+
+/* A loan: its elements, the bytes of each, which are its alignment too, and whether the call writes to it. */
+struct journal_loan {
+    const void *start;
+    size_t length, size;
+    int written;
+};
+
+/* The first address behind a loan. */
+static inline uintptr_t journal_loan_end(const struct journal_loan *loan) {
+    return (uintptr_t)loan->start + loan->length * loan->size;
+}
+
+/* It is aligned, and if it is not empty, not null and with an end. */
+static inline int journal_loan_stands(const struct journal_loan *loan) {
+    uintptr_t start = (uintptr_t)loan->start;
+    if (start % loan->size != 0) return 0;
+    return loan->length == 0 || (loan->start != NULL && loan->length <= (UINTPTR_MAX - start) / loan->size);
+}
+
+/* Two loans that stand have no byte in common. */
+static inline int journal_loans_apart(const struct journal_loan *one, const struct journal_loan *other) {
+    return one->length == 0 || other->length == 0 || journal_loan_end(one) <= (uintptr_t)other->start ||
+           journal_loan_end(other) <= (uintptr_t)one->start;
+}
+
+/* What the library asks of a call's loans: each stands, and what is written is apart from all others. */
+static inline int journal_loans_good(const struct journal_loan *loans, size_t count) {
+    size_t i, j;
+    for (i = 0; i < count; i++)
+        if (!journal_loan_stands(&loans[i])) return 0;
+    for (i = 0; i < count; i++)
+        for (j = 0; j < i; j++)
+            if ((loans[i].written || loans[j].written) && !journal_loans_apart(&loans[i], &loans[j])) return 0;
+    return 1;
+}
+
+/* The loan of a pointer with its length; a call reads it only, or writes to it too. */
+#define JOURNAL_READS(pointer, length) {(pointer), (length), sizeof *(pointer), 0}
+#define JOURNAL_WRITES(pointer, length) {(pointer), (length), sizeof *(pointer), 1}
+#define JOURNAL_GOOD(loans) journal_loans_good((loans), sizeof(loans) / sizeof *(loans))
+
+JOURNAL_MUST_USE
+static inline uint32_t journal_checked_start(uint8_t *journal, size_t journal_length, uint32_t items, uint64_t *answer) {
+    const struct journal_loan loans[] = {JOURNAL_WRITES(journal, journal_length), JOURNAL_WRITES(answer, 1)};
+    if (!JOURNAL_GOOD(loans)) return JOURNAL_REASON_LOANS;
+    return journal_start(journal, journal_length, items, answer);
+}
+
+JOURNAL_MUST_USE
+static inline uint32_t journal_checked_append(uint8_t *journal, size_t journal_length, int32_t *table, size_t table_length,
+                                              uint32_t counts[JOURNAL_COUNTS], uint8_t kind, uint16_t transaction, uint32_t item,
+                                              int32_t after, uint64_t *answer) {
+    const struct journal_loan loans[] = {JOURNAL_WRITES(journal, journal_length), JOURNAL_WRITES(table, table_length),
+                                         JOURNAL_WRITES(counts, JOURNAL_COUNTS), JOURNAL_WRITES(answer, 1)};
+    if (!JOURNAL_GOOD(loans)) return JOURNAL_REASON_LOANS;
+    return journal_append(journal, journal_length, table, table_length, counts, kind, transaction, item, after, answer);
+}
+
+JOURNAL_MUST_USE
+static inline uint32_t journal_checked_check(const uint8_t *journal, size_t journal_length, const int32_t *table, size_t table_length,
+                                             uint64_t *answer) {
+    const struct journal_loan loans[] = {JOURNAL_READS(journal, journal_length), JOURNAL_READS(table, table_length),
+                                         JOURNAL_WRITES(answer, 1)};
+    if (!JOURNAL_GOOD(loans)) return JOURNAL_REASON_LOANS;
+    return journal_check(journal, journal_length, table, table_length, answer);
+}
+
+JOURNAL_MUST_USE
+static inline uint32_t journal_checked_chain(const uint8_t *journal, size_t journal_length, uint16_t transaction, uint32_t *lsns,
+                                             size_t lsns_length, uint64_t *answer) {
+    const struct journal_loan loans[] = {JOURNAL_READS(journal, journal_length), JOURNAL_WRITES(lsns, lsns_length),
+                                         JOURNAL_WRITES(answer, 1)};
+    if (!JOURNAL_GOOD(loans)) return JOURNAL_REASON_LOANS;
+    return journal_chain(journal, journal_length, transaction, lsns, lsns_length, answer);
+}
+
+JOURNAL_MUST_USE
+static inline uint32_t journal_checked_undo(const uint8_t *journal, size_t journal_length, int32_t *table, size_t table_length,
+                                            const uint16_t *bad, size_t bad_length, uint8_t *status, size_t status_length, uint8_t *out,
+                                            size_t out_length, uint32_t *surviving, uint32_t *undone, uint32_t *aborted,
+                                            uint64_t *answer) {
+    const struct journal_loan loans[] = {
+        JOURNAL_READS(journal, journal_length), JOURNAL_WRITES(table, table_length), JOURNAL_READS(bad, bad_length),
+        JOURNAL_WRITES(status, status_length),  JOURNAL_WRITES(out, out_length),     JOURNAL_WRITES(surviving, 1),
+        JOURNAL_WRITES(undone, 1),              JOURNAL_WRITES(aborted, 1),          JOURNAL_WRITES(answer, 1),
+    };
+    if (!JOURNAL_GOOD(loans)) return JOURNAL_REASON_LOANS;
+    return journal_undo(journal, journal_length, table, table_length, bad, bad_length, status, status_length, out, out_length, surviving,
+                        undone, aborted, answer);
+}
+
+#undef JOURNAL_READS
+#undef JOURNAL_WRITES
+#undef JOURNAL_GOOD
+
+#define journal_start journal_checked_start
+#define journal_append journal_checked_append
+#define journal_check journal_checked_check
+#define journal_chain journal_checked_chain
+#define journal_undo journal_checked_undo
+
+#endif
 
 #ifdef __cplusplus
 }

@@ -7,7 +7,7 @@ int main(void) {
     int32_t table[1] = {500};
     uint16_t bad[1] = {1};
     uint32_t counts[JOURNAL_COUNTS] = {0}, surviving, undone, aborted, refused;
-    uint64_t answer;
+    uint64_t answer = 0;
 
     refused = journal_start(journal, sizeof journal, 1, &answer);
     if (!refused) refused = journal_append(journal, sizeof journal, table, 1, counts, JOURNAL_KIND_READ, 1, 0, 0, &answer);

@@ -1,7 +1,7 @@
 //! The example day of document 01: built record by record, checked, one slip of it, then taken back.
 
 use journal::{append, chain, check, journal_bytes, kind, start, status, undo};
-use journal::{Counts, Refusal, RECORD_BYTES, STATUS_BYTES};
+use journal::{Counts, Item, Lsn, Refusal, Transaction, RECORD_BYTES, STATUS_BYTES};
 
 /// Kind, transaction, item and after of each record.
 const DAY: [(u8, u16, u32, i32); 11] = [
@@ -35,8 +35,8 @@ fn main() -> Result<(), Refusal> {
             &mut table,
             &mut counts,
             kind,
-            transaction,
-            item,
+            Transaction(transaction),
+            Item(item),
             after,
         )?;
     }
@@ -50,16 +50,18 @@ fn main() -> Result<(), Refusal> {
     println!("table: {}", words(&table));
     println!("check: {} active", check(&journal, &table)?);
 
-    let mut lsns = [0; DAY.len()];
-    let visited = chain(&journal, 2, &mut lsns)?;
+    let mut lsns = [Lsn(0); DAY.len()];
+    let visited = chain(&journal, Transaction(2), &mut lsns)?;
     println!("chain of 2: {}", words(&lsns[..visited]));
 
     let mut marks = [0; STATUS_BYTES];
     let mut out = [0; journal_bytes(DAY.len())];
-    if let Err(refusal) = undo(&journal, &mut table, &[4], &mut marks, &mut out) {
+    let unknown = [Transaction(4)];
+    if let Err(refusal) = undo(&journal, &mut table, &unknown, &mut marks, &mut out) {
         println!("undo of 4: refused, {refusal}");
     }
-    let totals = undo(&journal, &mut table, &[1], &mut marks, &mut out)?;
+    let bad = [Transaction(1)];
+    let totals = undo(&journal, &mut table, &bad, &mut marks, &mut out)?;
     println!(
         "undo of 1: {} surviving, {} undone, {} aborted, a copy of {} bytes",
         totals.surviving, totals.undone, totals.aborted, totals.bytes

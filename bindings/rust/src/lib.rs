@@ -3,18 +3,22 @@
 //!
 //! A *transaction* is document 01's "sale", an *LSN* its "record number", *abort* its "rollback" and
 //! *active* its "open"; [`append`] is "post", [`chain`](chain()) is "slip", [`undo`] is "take-back".
+//! [`Transaction`], [`Item`] and [`Lsn`] are three separate numberings, each a type of its own.
 //!
 //! Every call takes slices of any length and content. It is accepted, or refused with a number and a
 //! place ([`Refusal`]); a refused call has written to nothing it was lent. No state is kept between
 //! calls, and none allocates: working arrays are on the stack, and `bindings/c/journal.h` says how much
 //! each call takes. If the process stops during a call, what is lent to be written may be written in
 //! part: work on copies, store journal and table together, and put both in place by one rename. The
-//! copy of an undo with the table of before can pass [`check`] with wrong amounts.
+//! copy of an undo with the table of before can pass [`check`] with wrong amounts. `examples/keep.rs`
+//! keeps a result so.
 //!
-//! The layout of a journal and the terms are in `bindings/c/journal.h`.
+//! The layout of a journal is in `docs/FORMAT.md`, the terms are in `bindings/c/journal.h`; [`Head`],
+//! [`Record`] and [`records`] read the bytes, and `examples/show.rs` prints them.
 //!
 //! ```
-//! use journal::{append, check, journal_bytes, kind, start, status, undo, Counts, STATUS_BYTES};
+//! use journal::{append, check, journal_bytes, kind, start, status, undo};
+//! use journal::{Counts, Item, Transaction, STATUS_BYTES};
 //!
 //! # fn main() -> Result<(), journal::Refusal> {
 //! // Sale 1 takes 180 pence from item 0, sale 2 reads item 1.
@@ -22,18 +26,18 @@
 //! let mut table = [500, 7];
 //! let mut counts = Counts::default();
 //! start(&mut journal, 2)?;
-//! append(&mut journal, &mut table, &mut counts, kind::READ, 1, 0, 0)?;
-//! append(&mut journal, &mut table, &mut counts, kind::WRITE, 1, 0, 320)?;
-//! append(&mut journal, &mut table, &mut counts, kind::COMMIT, 1, 0, 0)?;
-//! append(&mut journal, &mut table, &mut counts, kind::READ, 2, 1, 0)?;
+//! append(&mut journal, &mut table, &mut counts, kind::READ, Transaction(1), Item(0), 0)?;
+//! append(&mut journal, &mut table, &mut counts, kind::WRITE, Transaction(1), Item(0), 320)?;
+//! append(&mut journal, &mut table, &mut counts, kind::COMMIT, Transaction(1), Item(0), 0)?;
+//! append(&mut journal, &mut table, &mut counts, kind::READ, Transaction(2), Item(1), 0)?;
 //! assert_eq!(check(&journal, &table)?, 1);
-//! append(&mut journal, &mut table, &mut counts, kind::COMMIT, 2, 0, 0)?;
+//! append(&mut journal, &mut table, &mut counts, kind::COMMIT, Transaction(2), Item(0), 0)?;
 //! assert_eq!(counts, Counts { reads: 2, writes: 1, commits: 2, aborts: 0 });
 //!
 //! // Sale 1 turns out bad.
 //! let mut marks = [0; STATUS_BYTES];
 //! let mut out = vec![0; journal.len()];
-//! let totals = undo(&journal, &mut table, &[1], &mut marks, &mut out)?;
+//! let totals = undo(&journal, &mut table, &[Transaction(1)], &mut marks, &mut out)?;
 //! assert_eq!((totals.surviving, totals.undone, totals.aborted), (1, 1, 0));
 //! assert_eq!(marks[1..=2], [status::UNDONE, status::SURVIVING]);
 //! assert_eq!(table, [500, 7]);
@@ -42,12 +46,16 @@
 //! # }
 //! ```
 
-#![warn(missing_docs)]
+#![warn(missing_docs, clippy::undocumented_unsafe_blocks)]
 
+mod numbers;
 pub mod raw;
+mod record;
 mod refusal;
 
-pub use refusal::{Reason, Refusal};
+pub use numbers::{Item, Lsn, Transaction};
+pub use record::{records, Head, Record};
+pub use refusal::{Place, Reason, Refusal};
 
 /// Bytes of the head and of each record.
 pub const RECORD_BYTES: usize = 20;
@@ -115,6 +123,7 @@ pub struct Counts {
 
 /// What an accepted [`undo`] answers.
 #[derive(Clone, Copy, Debug, PartialEq, Eq)]
+#[non_exhaustive]
 pub struct Undone {
     /// How many transactions survive ("kept").
     pub surviving: u32,
@@ -130,15 +139,9 @@ pub struct Undone {
 fn answered(number: u32, answer: u64) -> Result<u64, Refusal> {
     match number {
         0 => Ok(answer),
-        _ => Err(Refusal {
-            number,
-            place: answer,
-        }),
+        _ => Err(Refusal::new(number, answer)),
     }
 }
-
-// SAFETY, for every call below: each pointer comes from a reference that lives through the call,
-// with the length of its slice, and the borrow rules keep what is written apart from all else.
 
 /// Starts a journal of this many items, without records. Where accepted it writes the first 20 bytes
 /// of `journal`.
@@ -156,6 +159,7 @@ fn answered(number: u32, answer: u64) -> Result<u64, Refusal> {
 /// ```
 pub fn start(journal: &mut [u8], items: u32) -> Result<(), Refusal> {
     let mut answer = 0;
+    // SAFETY: `journal` and `answer` are borrowed alone through the call; the length is the slice's.
     let number =
         unsafe { raw::journal_start(journal.as_mut_ptr(), journal.len(), items, &mut answer) };
     answered(number, answer).map(|_| ())
@@ -176,17 +180,18 @@ pub fn start(journal: &mut [u8], items: u32) -> Result<(), Refusal> {
 /// 14.
 ///
 /// ```
-/// use journal::{append, kind, Counts, Refusal};
+/// use journal::{append, kind, Counts, Item, Lsn, Place, Transaction};
 ///
 /// let mut journal = [0; 60];
 /// let (mut table, mut counts) = ([500], Counts::default());
+/// let (sale, item) = (Transaction(1), Item(0));
 /// journal::start(&mut journal, 1)?;
-/// let blind = append(&mut journal, &mut table, &mut counts, kind::WRITE, 1, 0, 320);
-/// assert_eq!(blind, Err(Refusal { number: 8, place: 1 }));
-/// append(&mut journal, &mut table, &mut counts, kind::READ, 1, 0, 0)?;
-/// append(&mut journal, &mut table, &mut counts, kind::WRITE, 1, 0, 320)?;
+/// let blind = append(&mut journal, &mut table, &mut counts, kind::WRITE, sale, item, 320);
+/// assert_eq!(blind.unwrap_err().place, Place::Record(Lsn(1)));
+/// append(&mut journal, &mut table, &mut counts, kind::READ, sale, item, 0)?;
+/// append(&mut journal, &mut table, &mut counts, kind::WRITE, sale, item, 320)?;
 /// assert_eq!(table, [320]);
-/// let full = append(&mut journal, &mut table, &mut counts, kind::COMMIT, 1, 0, 0);
+/// let full = append(&mut journal, &mut table, &mut counts, kind::COMMIT, sale, item, 0);
 /// assert_eq!(full.unwrap_err().to_string(), "paper");
 /// # Ok::<(), journal::Refusal>(())
 /// ```
@@ -195,13 +200,14 @@ pub fn append(
     table: &mut [i32],
     counts: &mut Counts,
     kind: u8,
-    transaction: u16,
-    item: u32,
+    transaction: Transaction,
+    item: Item,
     after: i32,
 ) -> Result<(), Refusal> {
     let mut answer = 0;
-    // `Counts` is four u32 in the order of the library.
     let counts: *mut Counts = counts;
+    // SAFETY: all four loans are borrowed alone through the call; each length is its slice's, and
+    // `Counts` is four u32 in the order of the library.
     let number = unsafe {
         raw::journal_append(
             journal.as_mut_ptr(),
@@ -210,8 +216,8 @@ pub fn append(
             table.len(),
             counts.cast(),
             kind,
-            transaction,
-            item,
+            transaction.0,
+            item.0,
             after,
             &mut answer,
         )
@@ -228,10 +234,12 @@ pub fn append(
 ///
 /// ```
 /// let torn = journal::check(&[0; 19], &[]).unwrap_err();
-/// assert_eq!((torn.number, torn.place), (1, 0));
+/// assert_eq!((torn.number, torn.place), (1, journal::Place::None));
 /// ```
 pub fn check(journal: &[u8], table: &[i32]) -> Result<u32, Refusal> {
     let mut answer = 0;
+    // SAFETY: journal and table are borrowed through the call and only read, `answer` is borrowed alone;
+    // each length is its slice's.
     let number = unsafe {
         raw::journal_check(
             journal.as_ptr(),
@@ -251,36 +259,46 @@ pub fn check(journal: &[u8], table: &[i32]) -> Result<u32, Refusal> {
 /// # Errors
 ///
 /// In order: 1 (under 20 bytes), 2, 1 (whole length); 4 to 9, the lowest record first, at one record
-/// the lowest number; 12, 14, both with place 0.
+/// the lowest number; 12, 14, both without a place.
 ///
 /// ```
-/// use journal::{append, chain, kind, Counts};
+/// use journal::{append, chain, kind, Counts, Item, Lsn, Transaction};
 ///
 /// let mut journal = [0; 80];
 /// let (mut table, mut counts) = ([500], Counts::default());
 /// journal::start(&mut journal, 1)?;
-/// for transaction in [4, 2, 4] {
-///     append(&mut journal, &mut table, &mut counts, kind::READ, transaction, 0, 0)?;
+/// for sale in [4, 2, 4].map(Transaction) {
+///     append(&mut journal, &mut table, &mut counts, kind::READ, sale, Item(0), 0)?;
 /// }
-/// let mut lsns = [0; 3];
-/// let visited = chain(&journal, 4, &mut lsns)?;
-/// assert_eq!(lsns[..visited], [1, 3]);
+/// let mut lsns = [Lsn(0); 3];
+/// let visited = chain(&journal, Transaction(4), &mut lsns)?;
+/// assert_eq!(lsns[..visited], [Lsn(1), Lsn(3)]);
 /// # Ok::<(), journal::Refusal>(())
 /// ```
-pub fn chain(journal: &[u8], transaction: u16, lsns: &mut [u32]) -> Result<usize, Refusal> {
+pub fn chain(journal: &[u8], transaction: Transaction, lsns: &mut [Lsn]) -> Result<usize, Refusal> {
     let mut answer = 0;
+    // SAFETY: the journal is borrowed through the call and only read, `lsns` and `answer` are borrowed
+    // alone; each length is its slice's, and an `Lsn` is laid out as a u32.
     let number = unsafe {
         raw::journal_chain(
             journal.as_ptr(),
             journal.len(),
-            transaction,
-            lsns.as_mut_ptr(),
+            transaction.0,
+            lsns.as_mut_ptr().cast(),
             lsns.len(),
             &mut answer,
         )
     };
-    // At most the length of `lsns`.
-    answered(number, answer).map(|visited| visited as usize)
+    match answered(number, answer) {
+        // At most the length of `lsns`.
+        Ok(visited) => Ok(visited as usize),
+        // No list is lent here, so 12 has no position.
+        Err(refusal) if refusal.reason() == Some(Reason::Unknown) => Err(Refusal {
+            place: Place::None,
+            ..refusal
+        }),
+        Err(refusal) => Err(refusal),
+    }
 }
 
 /// Undoes the listed transactions and every committed transaction that read from them, directly or
@@ -300,26 +318,29 @@ pub fn chain(journal: &[u8], transaction: u16, lsns: &mut [u32]) -> Result<usize
 /// let mut journal = [0; 20];
 /// journal::start(&mut journal, 1)?;
 /// let (mut table, mut status, mut out) = ([500], [0; journal::STATUS_BYTES], [0; 20]);
-/// let unknown = journal::undo(&journal, &mut table, &[4], &mut status, &mut out);
-/// assert_eq!(unknown.unwrap_err().to_string(), "unknown, place 0");
+/// let bad = [journal::Transaction(4)];
+/// let unknown = journal::undo(&journal, &mut table, &bad, &mut status, &mut out);
+/// assert_eq!(unknown.unwrap_err().to_string(), "unknown, position 0");
 /// assert_eq!(journal::undo(&journal, &mut table, &[], &mut status, &mut out)?.bytes, 20);
 /// # Ok::<(), journal::Refusal>(())
 /// ```
 pub fn undo(
     journal: &[u8],
     table: &mut [i32],
-    bad: &[u16],
+    bad: &[Transaction],
     status: &mut [u8],
     out: &mut [u8],
 ) -> Result<Undone, Refusal> {
     let (mut surviving, mut undone, mut aborted, mut answer) = (0, 0, 0, 0);
+    // SAFETY: journal and list are borrowed through the call and only read, all else is borrowed alone;
+    // each length is its slice's, and a `Transaction` is laid out as a u16.
     let number = unsafe {
         raw::journal_undo(
             journal.as_ptr(),
             journal.len(),
             table.as_mut_ptr(),
             table.len(),
-            bad.as_ptr(),
+            bad.as_ptr().cast(),
             bad.len(),
             status.as_mut_ptr(),
             status.len(),

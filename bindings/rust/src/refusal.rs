@@ -1,11 +1,13 @@
 //! Refusals: document 01, "Reasons for handing it back".
 
+use crate::{Item, Lsn, Transaction};
 use std::error::Error;
 use std::fmt;
 
 /// Why a call is refused. Each case has document 01's number as its value; the quoted word is the
 /// document's.
 #[derive(Clone, Copy, Debug, PartialEq, Eq)]
+#[non_exhaustive]
 #[repr(u32)]
 pub enum Reason {
     /// "torn": fewer than 20 bytes, or fewer than 20 × (record count + 1).
@@ -47,7 +49,7 @@ pub enum Reason {
 
 impl Reason {
     /// All of them, by number.
-    pub const ALL: [Reason; 15] = [
+    pub const ALL: &'static [Reason] = &[
         Reason::Truncated,
         Reason::Header,
         Reason::TableLength,
@@ -90,49 +92,101 @@ impl Reason {
             Reason::Counts => "tally",
         }
     }
+}
 
-    /// Whether a place belongs to it: a record, an item, a transaction or a position. Otherwise the
-    /// place is always 0.
-    pub const fn has_place(self) -> bool {
-        matches!(self.number(), 4..=12)
+/// The place of a refusal: what it is, with its number.
+#[derive(Clone, Copy, Debug, PartialEq, Eq)]
+#[non_exhaustive]
+pub enum Place {
+    /// The refusal has none; document 01's number for it is 0.
+    None,
+    /// A record: numbers 4 to 9.
+    Record(Lsn),
+    /// An item: number 10.
+    Item(Item),
+    /// A transaction: number 11.
+    Transaction(Transaction),
+    /// A position in the bad list, from 0: number 12.
+    Position(u64),
+    /// The place of a number that is not in [`Reason`].
+    Other(u64),
+}
+
+impl Place {
+    /// Document 01's number for it.
+    pub fn number(self) -> u64 {
+        match self {
+            Place::None => 0,
+            Place::Record(lsn) => lsn.0.into(),
+            Place::Item(item) => item.0.into(),
+            Place::Transaction(transaction) => transaction.0.into(),
+            Place::Position(number) | Place::Other(number) => number,
+        }
     }
 }
 
 /// A refusal: document 01's number and the place. The call has written to nothing it was lent.
 ///
-/// It displays the document's word and, where the number has one, the place:
+/// It displays the document's word and the place, where it has one; `{:?}`, which is what a `main`
+/// that returns it prints, adds the number:
 ///
 /// ```
-/// let refusal = journal::Refusal { number: 6, place: 12 };
-/// assert_eq!(refusal.to_string(), "closed, place 12");
+/// let refusal = journal::Refusal::new(6, 12);
+/// assert_eq!(refusal.to_string(), "closed, record 12");
+/// assert_eq!(format!("{refusal:?}"), "closed, record 12 (6)");
 /// assert_eq!(refusal.reason(), Some(journal::Reason::Closed));
 /// ```
-#[derive(Clone, Copy, Debug, PartialEq, Eq)]
+#[derive(Clone, Copy, PartialEq, Eq)]
+#[non_exhaustive]
 pub struct Refusal {
     /// 1 to 15, see [`Reason`].
     pub number: u32,
-    /// A record, an item, a transaction or a position in the bad list, by the number; otherwise 0.
-    pub place: u64,
+    /// Where, and of what.
+    pub place: Place,
 }
 
 impl Refusal {
+    /// The refusal of this number, with the place as the library answers it.
+    pub fn new(number: u32, place: u64) -> Refusal {
+        // A record, an item and a transaction have 32 and 16 bits, and so have their places.
+        let place = match number {
+            4..=9 => Place::Record(Lsn(place as u32)),
+            10 => Place::Item(Item(place as u32)),
+            11 => Place::Transaction(Transaction(place as u16)),
+            12 => Place::Position(place),
+            1..=15 => Place::None,
+            _ => Place::Other(place),
+        };
+        Refusal { number, place }
+    }
+
     /// The reason of that number, if it is one.
     pub fn reason(self) -> Option<Reason> {
-        Reason::ALL
-            .into_iter()
-            .find(|reason| reason.number() == self.number)
+        let mut reasons = Reason::ALL.iter().copied();
+        reasons.find(|reason| reason.number() == self.number)
     }
 }
 
 impl fmt::Display for Refusal {
     fn fmt(&self, f: &mut fmt::Formatter<'_>) -> fmt::Result {
         match self.reason() {
-            Some(reason) if reason.has_place() => {
-                write!(f, "{}, place {}", reason.word(), self.place)
-            }
-            Some(reason) => f.write_str(reason.word()),
-            None => write!(f, "number {}, place {}", self.number, self.place),
+            Some(reason) => f.write_str(reason.word())?,
+            None => write!(f, "number {}", self.number)?,
         }
+        match self.place {
+            Place::None => Ok(()),
+            Place::Record(lsn) => write!(f, ", record {lsn}"),
+            Place::Item(item) => write!(f, ", item {item}"),
+            Place::Transaction(transaction) => write!(f, ", sale {transaction}"),
+            Place::Position(position) => write!(f, ", position {position}"),
+            Place::Other(place) => write!(f, ", place {place}"),
+        }
+    }
+}
+
+impl fmt::Debug for Refusal {
+    fn fmt(&self, f: &mut fmt::Formatter<'_>) -> fmt::Result {
+        write!(f, "{self} ({})", self.number)
     }
 }
 

@@ -2,7 +2,7 @@
 
 use journal::status::{NOT_COMMITTED, SURVIVING, UNDONE};
 use journal::{append, chain, check, kind, start, undo};
-use journal::{Counts, Reason, Refusal, Undone, STATUS_BYTES};
+use journal::{Counts, Item, Lsn, Place, Reason, Refusal, Transaction, Undone, STATUS_BYTES};
 
 const CLOSING: [i32; 3] = [320, 0, 1180];
 
@@ -14,6 +14,26 @@ const COPY: [u8; 80] = [
     2, 0, 3, 0, 3, 0, 0, 0, 2, 0, 0, 0, 0xE8, 0x03, 0, 0, 0x9C, 0x04, 0, 0,
     3, 0, 3, 0, 0, 0, 0, 0, 0, 0, 0, 0, 0, 0, 0, 0, 0, 0, 0, 0,
 ];
+
+/// Append with plain numbers.
+fn post(
+    journal: &mut [u8],
+    table: &mut [i32],
+    counts: &mut Counts,
+    kind: u8,
+    sale: u16,
+    item: u32,
+    after: i32,
+) -> Result<(), Refusal> {
+    let (sale, item) = (Transaction(sale), Item(item));
+    append(journal, table, counts, kind, sale, item, after)
+}
+
+/// Kept, taken back, dropped and the copy's bytes.
+fn totals(undone: Undone) -> [usize; 4] {
+    let [kept, back, dropped] = [undone.surviving, undone.undone, undone.aborted];
+    [kept as usize, back as usize, dropped as usize, undone.bytes]
+}
 
 /// The journal, built from the opening table by start and append.
 fn example() -> Vec<u8> {
@@ -35,8 +55,16 @@ fn example() -> Vec<u8> {
     let mut counts = Counts::default();
     start(&mut journal, 3).unwrap();
     for (kind, sale, item, after) in day {
-        let lent = (&mut journal, &mut table, &mut counts);
-        append(lent.0, lent.1, lent.2, kind, sale, item, after).unwrap();
+        post(
+            &mut journal,
+            &mut table,
+            &mut counts,
+            kind,
+            sale,
+            item,
+            after,
+        )
+        .unwrap();
     }
     assert_eq!(table, CLOSING);
     let expected = Counts {
@@ -60,6 +88,7 @@ fn undone(
     Vec<u8>,
 ) {
     let (mut table, mut status, mut out) = (CLOSING, [9; STATUS_BYTES], vec![9; paper]);
+    let bad = Transaction::list(bad);
     let answer = undo(&example(), &mut table, bad, &mut status, &mut out);
     (answer, table, status, out)
 }
@@ -86,10 +115,11 @@ fn the_slips() {
         (2, &[6, 8, 10]),
         (3, &[7, 9, 11]),
     ] {
-        let mut lsns = [77; 11];
-        assert_eq!(chain(&journal, sale, &mut lsns), Ok(slip.len()));
-        assert_eq!(lsns[..slip.len()], *slip);
-        assert!(lsns[slip.len()..].iter().all(|lsn| *lsn == 77));
+        let mut lsns = [Lsn(77); 11];
+        let visited = chain(&journal, Transaction(sale), &mut lsns);
+        assert_eq!(visited, Ok(slip.len()));
+        assert_eq!(lsns.map(|lsn| lsn.0)[..slip.len()], *slip);
+        assert!(lsns[slip.len()..].iter().all(|lsn| *lsn == Lsn(77)));
     }
 }
 
@@ -97,13 +127,7 @@ fn the_slips() {
 fn list_1_takes_back_1_and_2() {
     for bad in [&[1][..], &[1, 1], &[2, 1]] {
         let (answer, table, status, out) = undone(bad, 240);
-        let totals = Undone {
-            surviving: 1,
-            undone: 2,
-            aborted: 0,
-            bytes: 80,
-        };
-        assert_eq!(answer, Ok(totals));
+        assert_eq!(answer.map(totals), Ok([1, 2, 0, 80]));
         assert_eq!(table, [500, 0, 1180]);
         assert_eq!(status[..4], [NOT_COMMITTED, UNDONE, UNDONE, SURVIVING]);
         assert!(status[4..].iter().all(|mark| *mark == NOT_COMMITTED));
@@ -136,7 +160,7 @@ fn a_refusal_writes_nothing() {
         (&[1][..], 79, 14, Reason::Capacity),
     ] {
         let (answer, table, status, out) = undone(bad, paper);
-        assert_eq!(answer, Err(Refusal { number, place: 0 }));
+        assert_eq!(answer, Err(Refusal::new(number, 0)));
         assert_eq!(answer.unwrap_err().reason(), Some(reason));
         assert_eq!(table, CLOSING);
         assert!(status.iter().all(|mark| *mark == 9));
@@ -151,12 +175,9 @@ fn a_refused_append_keeps_the_counts() {
     let mut counts = Counts::default();
     start(&mut journal, 1).unwrap();
     for kind in [0, 5, 255] {
-        let answer = append(&mut journal, &mut table, &mut counts, kind, 1, 0, 0);
-        let smudge = Refusal {
-            number: 4,
-            place: 1,
-        };
-        assert_eq!(answer, Err(smudge));
+        let answer = post(&mut journal, &mut table, &mut counts, kind, 1, 0, 0);
+        assert_eq!(answer, Err(Refusal::new(4, 1)));
+        assert_eq!(answer.unwrap_err().place, Place::Record(Lsn(1)));
     }
     assert_eq!(counts, Counts::default());
 }
@@ -175,8 +196,16 @@ fn each_count_is_in_its_place() {
     let mut counts = Counts::default();
     start(&mut journal, 1).unwrap();
     for (kind, sale, item, after) in day {
-        let lent = (&mut journal, &mut table, &mut counts);
-        append(lent.0, lent.1, lent.2, kind, sale, item, after).unwrap();
+        post(
+            &mut journal,
+            &mut table,
+            &mut counts,
+            kind,
+            sale,
+            item,
+            after,
+        )
+        .unwrap();
     }
     let expected = Counts {
         reads: 3,
@@ -187,15 +216,7 @@ fn each_count_is_in_its_place() {
     assert_eq!((counts, table), (expected, [500]));
 
     let (mut status, mut out) = ([9; STATUS_BYTES], [9; 140]);
-    let totals = Undone {
-        surviving: 0,
-        undone: 0,
-        aborted: 1,
-        bytes: 20,
-    };
-    assert_eq!(
-        undo(&journal, &mut table, &[], &mut status, &mut out),
-        Ok(totals)
-    );
+    let answer = undo(&journal, &mut table, &[], &mut status, &mut out);
+    assert_eq!(answer.map(totals), Ok([0, 0, 1, 20]));
     assert_eq!(status[1], NOT_COMMITTED);
 }

@@ -1,6 +1,6 @@
 //! The C header and the proved code have the names and numbers of this crate.
 
-use journal::{kind, status, Reason};
+use journal::{kind, status, Reason, Refusal};
 use std::fs;
 
 /// A file of the repository.
@@ -46,6 +46,34 @@ fn the_header_has_each_reason() {
 }
 
 #[test]
+fn the_header_has_each_place() {
+    let header = squeezed(&text("bindings/c/journal.h"));
+    let (_, switch) = header
+        .split_once(" *journal_place_word(uint32_t number) ")
+        .unwrap();
+    let (switch, _) = switch.split_once(" default: ").unwrap();
+    let mut rest = switch.to_string();
+    for reason in Reason::ALL {
+        let shown = Refusal::new(reason.number(), 7).to_string();
+        let word = shown
+            .split_once(", ")
+            .map(|(_, place)| place.trim_end_matches(" 7"));
+        let case = format!(
+            " case JOURNAL_REASON_{}: ",
+            constant(&format!("{reason:?}"))
+        );
+        assert_eq!(rest.contains(&case), word.is_some(), "{case}");
+        // A case falls through to the next that returns.
+        if let Some(word) = word {
+            let (_, after) = rest.split_once(&case).unwrap();
+            let (_, returned) = after.split_once("return ").unwrap();
+            assert!(returned.starts_with(&format!("\"{word}\"")), "{case}");
+            rest = format!(" {}", after.trim_start());
+        }
+    }
+}
+
+#[test]
 fn the_header_has_each_limit_and_kind() {
     let header = squeezed(&text("bindings/c/journal.h"));
     for (name, value) in [
@@ -83,5 +111,6 @@ fn the_proved_code_has_the_same_reasons() {
         .filter_map(|line| line.trim().split(['(', ',']).next())
         .filter(|name| !name.is_empty())
         .collect();
-    assert_eq!(names, Reason::ALL.map(|reason| format!("{reason:?}")));
+    let ours: Vec<String> = Reason::ALL.iter().map(|r| format!("{r:?}")).collect();
+    assert_eq!(names, ours);
 }

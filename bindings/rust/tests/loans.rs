@@ -1,6 +1,6 @@
 //! What `journal.h` says of a null pointer with length 0: an empty loan, in every call.
 
-use journal::{append, kind, raw, start, Counts, STATUS_BYTES};
+use journal::{append, kind, raw, start, Counts, Item, Transaction, STATUS_BYTES};
 use std::ptr::{null, null_mut};
 
 /// A journal of one committed sale, 80 bytes, that passes with the table 320.
@@ -8,7 +8,17 @@ fn sale() -> [u8; 80] {
     let (mut journal, mut table, mut counts) = ([0; 80], [500], Counts::default());
     start(&mut journal, 1).unwrap();
     for (kind, after) in [(kind::READ, 0), (kind::WRITE, 320), (kind::COMMIT, 0)] {
-        append(&mut journal, &mut table, &mut counts, kind, 1, 0, after).unwrap();
+        let (sale, item) = (Transaction(1), Item(0));
+        append(
+            &mut journal,
+            &mut table,
+            &mut counts,
+            kind,
+            sale,
+            item,
+            after,
+        )
+        .unwrap();
     }
     journal
 }
@@ -17,6 +27,7 @@ fn sale() -> [u8; 80] {
 fn start_and_append() {
     let (mut journal, mut table, mut counts) = (sale(), [320], [1, 1, 1, 0]);
     let mut answer = 9;
+    // SAFETY: every pointer is null with length 0, or of an array of that length that nothing else uses.
     let number = unsafe { raw::journal_start(null_mut(), 0, 1, &mut answer) };
     assert_eq!((number, answer), (1, 0));
 
@@ -28,6 +39,7 @@ fn start_and_append() {
         (null_mut(), 0, null_mut(), 0, 1),
     ] {
         let mut answer = 9;
+        // SAFETY: every pointer is null with length 0, or of an array of that length that nothing else uses.
         let number = unsafe {
             raw::journal_append(
                 journal,
@@ -58,6 +70,7 @@ fn check_and_chain() {
         (null(), 0, null(), 0, 1),
     ] {
         let mut answer = 9;
+        // SAFETY: every pointer is null with length 0, or of an array of that length that nothing else uses.
         let number = unsafe {
             raw::journal_check(journal, journal_length, table, table_length, &mut answer)
         };
@@ -69,6 +82,7 @@ fn check_and_chain() {
         (lent, 80, 2, null_mut(), 0, 12),
     ] {
         let mut answer = 9;
+        // SAFETY: every pointer is null with length 0, or of an array of that length that nothing else uses.
         let number = unsafe {
             raw::journal_chain(
                 journal,
@@ -90,6 +104,7 @@ fn undo_without(loan: usize) -> (u32, u64, [u32; 3], i32) {
     let (mut counts, mut answer) = ([9; 3], 9);
     let [surviving, undone, aborted] = &mut counts;
     let length = |index, elements| if index == loan { 0 } else { elements };
+    // SAFETY: every pointer is null with length 0, or of an array of that length that nothing else uses.
     let number = unsafe {
         raw::journal_undo(
             if loan == 0 { null() } else { journal.as_ptr() },

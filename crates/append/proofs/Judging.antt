@@ -2,7 +2,7 @@
 -- Assumes nothing.
 use mathlib.Core.Path.{_≡_, refl, sym, _∙_, ap}
 use mathlib.Core.Bool.{Bool, true, false, cond, not}
-use mathlib.Core.List.{List, _++_, append-assoc}
+use mathlib.Core.List.{List, [], _∷_}
 use mathlib.Core.Option.{Option, none, some}
 use Prim.Native.Nat.{ℕ, suc, _+_}
 use native.Mathlib.Omega.{arith}
@@ -11,51 +11,42 @@ use Rattle.lists.specs.Search.{orElse}
 use Rattle.format.specs.declared.Record.{Record}
 use Rattle.model.specs.History.{Amount}
 use Rattle.model.proofs.Extension.{matched-extended}
+use Rattle.journal.specs.Inputs.{lent}
 use Rattle.journal.specs.declared.Reason.{Reason}
 use Rattle.journal.specs.Reasons.{numberOf, placeOf}
 use Rattle.journal.specs.Journal.{count, items, txIn, opOf, history, whole, amountAt}
-use Rattle.journal.specs.Refusals.{Tally, malformed, closed, crossed, blind, mismatched, noRoom, wrongTally}
-use Rattle.journal.specs.Orders.{Refusal, try, decide, checkOrder, appendOrder}
+use Rattle.journal.specs.Refusals.{Tally, malformed, mismatched, noRoom, wrongTally}
+use Rattle.journal.specs.Orders.{Refusal, accessOrder, ruleOrder, tallyOrder, newOrder, checkOrder, appendOrder, decide}
 use Rattle.journal.specs.Calls.{Answer, refused, accepted, answered}
 use Rattle.journal.proofs.Clear.{decide-clear}
 use Rattle.journal.proofs.Checked.{clear-checks}
 use Rattle.journal.proofs.Unrefused.{settled-amount, formed-cases, opOf-read, opOf-write, opOf-commit, opOf-abort}
-use Rattle.journal.proofs.OrdersLaws.{decide-append}
+use Rattle.journal.proofs.OrdersLaws.{orElse-none, decide-try, decide-turn, decide-over, decide-one}
+use Rattle.journal.proofs.Answered.{accepted-only, refused-only}
 use Rattle.fields.specs.declared.Headed.{Headed}
 use Rattle.fields.specs.declared.Headed.the-variants as headed
 use Rattle.fields.specs.Answers.{Size, headerOf}
-use Rattle.fields.proofs.OrderLaws.{decide-try}
 use Rattle.rules.specs.declared.Verdict.{Verdict}
 use Rattle.rules.specs.declared.Verdict.the-variants as verdict
-use Rattle.rules.specs.Answers.{verdictOf, ruleOrder}
-use Rattle.rules.specs.Arrays.{Ready, State}
-use Rattle.validate.proofs.Whole.{checked-ready}
-use Rattle.append.specs.Entries.{FromTable, Arrays, newOrder, entryOrder}
+use Rattle.rules.specs.Answers.{verdictOf}
+use Rattle.rules.specs.Arrays.{Ready, SightedTo, State}
+use Rattle.validate.proofs.Whole.{checked-ready, checked-sighted}
+use Rattle.append.specs.Entries.{FromTable, Arrays, entryOrder}
 
 -- a refusal, by number and place
 abbrev at : ℕ → ℕ → Option Refusal
 at n p = some (record { number = n; place = p })
 
-pub accepted-only : {A : Type 0} (d : Option Refusal) (x y : A) → accepted x ≡ answered d y → (d ≡ none) × (x ≡ y)
-accepted-only none x y e = let z : x ≡ y = cc in (refl, z)
-accepted-only (some r) x y e = let z : _≡_ {A = ℕ} 0 1 = cc in absurd (omega arith)
-
-pub refused-only : {A : Type 0} (k l : ℕ) (d : Option Refusal) (x : A) → refused k l ≡ answered d x → d ≡ some (record { number = k; place = l })
-refused-only k l none x e = let z : _≡_ {A = ℕ} 0 1 = cc in absurd (omega arith)
-refused-only k l (some r) x e = let i : k ≡ r .number = cc in let j : l ≡ r .place = cc in rw (i, j)
-
 -- ---- 4, 6, 7, 8 and 14: the new record
 
 module _ (b : List ℕ) (n : ℕ) (r : Record) (e : n ≡ count b) where
-  new-parts : decide (newOrder b r) ≡ orElse (cond (malformed (items b) r) (at 4 (n + 1)) none)
-      (orElse (cond (closed (history b n) (opOf (n + 1) r)) (at 6 (n + 1)) none)
-      (orElse (cond (crossed (history b n) (opOf (n + 1) r)) (at 7 (n + 1)) none)
-      (orElse (cond (blind (history b n) (opOf (n + 1) r)) (at 8 (n + 1)) none) (cond (noRoom b) (at 14 0) none))))
+  -- 4, then 6 to 8, then 14
+  new-parts : decide (newOrder b r)
+      ≡ orElse (cond (malformed (items b) r) (at 4 (n + 1)) none) (orElse (decide (accessOrder (history b n) (n + 1) (opOf (n + 1) r))) (cond (noRoom b) (at 14 0) none))
   unfolding newOrder whole
   new-parts =
       let i : suc (count b) ≡ n + 1 = omega arith in
-      rw (i, ← e)
-      (simp (decide-append, decide-try))
+      rw (i, ← e) (simp (decide-turn, decide-over, decide-try, orElse-none))
 
   module _ (h : Bool) (keys : ℕ) (k : keys ≡ items b) (g : h ≡ not (malformed keys r)) where
     pub new-malformed : h ≡ false → at 4 (n + 1) ≡ decide (newOrder b r)
@@ -71,19 +62,13 @@ module _ (b : List ℕ) (n : ℕ) (r : Record) (e : n ≡ count b) where
 
       module _ (m : malformed (items b) r ≡ false → mismatched (whole b) (opOf (suc (count b)) r) ≡ false)
           (v : Verdict) (q : verdictOf v ≡ decide (ruleOrder (history b n) (n + 1) (opOf (n + 1) r))) where
-        rule-parts : verdictOf v ≡ orElse (orElse (orElse (cond (closed (history b n) (opOf (n + 1) r)) (at 6 (n + 1)) none)
-            (cond (crossed (history b n) (opOf (n + 1) r)) (at 7 (n + 1)) none)) (cond (blind (history b n) (opOf (n + 1) r)) (at 8 (n + 1)) none)) none
+        -- without 9 the rules are 6 to 8
+        access-is : decide (accessOrder (history b n) (n + 1) (opOf (n + 1) r)) ≡ verdictOf v
         unfolding ruleOrder
-        rule-parts = q ∙ simp (decide-append, decide-try, new-matched m)
+        access-is = sym (q ∙ simp (decide-turn, decide-over, decide-try, new-matched m, orElse-none))
 
         rest : decide (newOrder b r) ≡ orElse (verdictOf v) (cond (noRoom b) (at 14 0) none)
-        rest = rw (new-parts, new-formed, rule-parts) (join (cond (closed (history b n) (opOf (n + 1) r)) (at 6 (n + 1)) none) (cond (crossed (history b n) (opOf (n + 1) r)) (at 7 (n + 1)) none) (cond (blind (history b n) (opOf (n + 1) r)) (at 8 (n + 1)) none) _)
-          where
-            join : (x y z w : Option Refusal) → orElse x (orElse y (orElse z w)) ≡ orElse (orElse (orElse (orElse x y) z) none) w
-            join (some x) y z w = refl
-            join none (some y) z w = refl
-            join none none (some z) w = refl
-            join none none none w = refl
+        rest = rw (new-parts, new-formed, access-is)
 
         pub new-refused : (why : Reason) → v ≡ verdict.Refused why → verdictOf v ≡ decide (newOrder b r)
         new-refused why y = sym (rest ∙ rw y) ∙ refl
@@ -99,9 +84,8 @@ module _ (b : List ℕ) (n : ℕ) (r : Record) (e : n ≡ count b) where
 
 module _ (b : List ℕ) (c : Tally) (r : Record) (h : Bool) (g : h ≡ not (wrongTally b c)) where
   entry-parts : decide (entryOrder b c r) ≡ orElse (cond (wrongTally b c) (at 15 0) none) (decide (newOrder b r))
-  unfolding entryOrder
-  entry-parts =
-      decide-append (try 15 0 (wrongTally b c)) (newOrder b r) ∙ ap (λ d. orElse d (decide (newOrder b r))) (decide-try 15 0 (wrongTally b c))
+  unfolding entryOrder tallyOrder
+  entry-parts = decide-turn (tallyOrder b c) (newOrder b r ∷ []) ∙ rw (decide-try 15 0 (wrongTally b c), decide-one (newOrder b r))
 
   pub entry-counts : h ≡ false → refused 15 0 ≡ answered (decide (entryOrder b c r)) (count b)
   entry-counts z = let a : wrongTally b c ≡ true = not-false _ (sym g ∙ z) in rw (entry-parts, a)
@@ -118,20 +102,17 @@ module _ (b : List ℕ) (c : Tally) (r : Record) (h : Bool) (g : h ≡ not (wron
 
 -- ---- 1 to 10: check
 
-regrouped : (b : List ℕ) (t : List Amount) (c : Tally) (r : Record) → appendOrder b t c r ≡ checkOrder b t ++ entryOrder b c r
-unfolding appendOrder entryOrder newOrder
-regrouped b t c r = simp append-assoc
+module _ (b : List ℕ) (t : List Amount) (c : Tally) (r : Record) (h : Headed) (q : headerOf h ≡ answered (decide (checkOrder (lent b t))) (record { records = count b; items = items b })) where
+  append-parts : decide (appendOrder (lent b t) c r) ≡ orElse (decide (checkOrder (lent b t))) (decide (entryOrder b c r))
+  unfolding appendOrder entryOrder
+  append-parts = decide-turn (checkOrder (lent b t)) (tallyOrder b c ∷ newOrder b r ∷ [])
 
-module _ (b : List ℕ) (t : List Amount) (c : Tally) (r : Record) (h : Headed) (q : headerOf h ≡ answered (decide (checkOrder b t)) (record { records = count b; items = items b })) where
-  append-parts : decide (appendOrder b t c r) ≡ orElse (decide (checkOrder b t)) (decide (entryOrder b c r))
-  append-parts = ap decide (regrouped b t c r) ∙ decide-append (checkOrder b t) (entryOrder b c r)
-
-  pub plan-refused : (why : Reason) → h ≡ headed.Refused why → refused (numberOf why) (placeOf why) ≡ answered (decide (appendOrder b t c r)) (count b)
-  plan-refused why e = let z = refused-only _ _ (decide (checkOrder b t)) _ (sym (ap headerOf e) ∙ q) in rw (append-parts, z)
+  pub plan-refused : (why : Reason) → h ≡ headed.Refused why → refused (numberOf why) (placeOf why) ≡ answered (decide (appendOrder (lent b t) c r)) (count b)
+  plan-refused why e = let z = refused-only _ _ (decide (checkOrder (lent b t))) _ (sym (ap headerOf e) ∙ q) in rw (append-parts, z)
 
   module _ (n m : ℕ) (e : h ≡ headed.Counts n m) where
-    sized : (decide (checkOrder b t) ≡ none) × (_≡_ {A = Size} (record { records = n; items = m }) (record { records = count b; items = items b }))
-    sized = accepted-only (decide (checkOrder b t)) _ _ (sym (ap headerOf e) ∙ q)
+    sized : (decide (checkOrder (lent b t)) ≡ none) × (_≡_ {A = Size} (record { records = n; items = m }) (record { records = count b; items = items b }))
+    sized = accepted-only (decide (checkOrder (lent b t))) _ _ (sym (ap headerOf e) ∙ q)
 
     pub plan-counted : n ≡ count b
     plan-counted = ap (λ s. s .records) (sized .1)
@@ -142,7 +123,10 @@ module _ (b : List ℕ) (t : List Amount) (c : Tally) (r : Record) (h : Headed) 
     pub plan-ready : Ready b n
     plan-ready = rw plan-counted (checked-ready b t (sized .0))
 
-    pub plan-arrays : (ends firsts writes bases reads links : List ℕ) → (decide (checkOrder b t) ≡ none → State b (count b) ends firsts writes bases reads links) → Arrays b n ends writes reads links
+    pub plan-sighted : SightedTo b n
+    plan-sighted = rw plan-counted (checked-sighted b t (sized .0))
+
+    pub plan-arrays : (ends firsts writes bases reads links : List ℕ) → (decide (checkOrder (lent b t)) ≡ none → State b (count b) ends firsts writes bases reads links) → Arrays b n ends writes reads links
     plan-arrays ends firsts writes bases reads links s =
         let p = s (sized .0) in
         rw plan-counted (record { ended = p .ended; written = p .written; sighted = p .sighted; linked = p .linked })
@@ -151,7 +135,7 @@ module _ (b : List ℕ) (t : List Amount) (c : Tally) (r : Record) (h : Headed) 
     pub plan-matched : FromTable t r → malformed (items b) r ≡ false → mismatched (whole b) (opOf (suc (count b)) r) ≡ false
     unfolding mismatched
     plan-matched f m =
-        let k = clear-checks b t (decide-clear (checkOrder b t) (sized .0)) in
+        let k = clear-checks b t (decide-clear (checkOrder (lent b t)) (sized .0)) in
         formed-cases (items b) r m
         (λ a _ _. rw (opOf-read (suc (count b)) r a))
         (λ a x.
@@ -160,5 +144,5 @@ module _ (b : List ℕ) (t : List Amount) (c : Tally) (r : Record) (h : Headed) 
         (λ a _. rw (opOf-commit (suc (count b)) r a))
         (λ a _. rw (opOf-abort (suc (count b)) r a))
 
-    pub plan-entry : (p : Answer ℕ) → p ≡ answered (decide (entryOrder b c r)) (count b) → p ≡ answered (decide (appendOrder b t c r)) (count b)
+    pub plan-entry : (p : Answer ℕ) → p ≡ answered (decide (entryOrder b c r)) (count b) → p ≡ answered (decide (appendOrder (lent b t) c r)) (count b)
     plan-entry p y = rw (append-parts, sized .0) y

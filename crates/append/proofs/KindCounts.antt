@@ -1,7 +1,7 @@
 -- Counts by kind: one record more, and those of a journal whose records passed.
 -- Assumes nothing.
 use mathlib.Core.Path.{_≡_, refl, sym, _∙_, ap}
-use mathlib.Core.Bool.{Bool, true, false, not, _&&_}
+use mathlib.Core.Bool.{Bool, true, false, cond, not, _&&_}
 use mathlib.Core.List.{List, [], _∷_}
 use Prim.Native.Nat.{ℕ, suc, _+_, _*_, _<_, _≤_}
 use native.Mathlib.Omega.{arith}
@@ -25,26 +25,17 @@ use Rattle.append.specs.Answers.{tallyOf, Few}
 
 -- ---- one record more
 
-module _ (c : Counts) (kind : ℕ) where
-  pub raise-read : kind ≡ 1 → tallyOf (record { reads = c .reads + 1; writes = c .writes; commits = c .commits; aborts = c .aborts }) ≡ raised kind (tallyOf c)
-  unfolding raised
-  raise-read e = rw (e, add-one)
+pub more-yes : (c e v : ℕ) → e ≡ v → c + 1 ≡ cond (eqb e v) (c + 1) c
+more-yes c e v h = rw (eq-eqb e v h)
 
-  pub raise-write : kind ≡ 2 → tallyOf (record { reads = c .reads; writes = c .writes + 1; commits = c .commits; aborts = c .aborts }) ≡ raised kind (tallyOf c)
-  unfolding raised
-  raise-write e = rw (e, add-one)
+pub more-no : (c e v : ℕ) → (e ≡ v → ⊥) → c ≡ cond (eqb e v) (c + 1) c
+more-no c e v h = rw (ne-eqb e v h)
 
-  pub raise-commit : kind ≡ 3 → tallyOf (record { reads = c .reads; writes = c .writes; commits = c .commits + 1; aborts = c .aborts }) ≡ raised kind (tallyOf c)
-  unfolding raised
-  raise-commit e = rw (e, add-one)
-
-  pub raise-abort : kind ≡ 4 → tallyOf (record { reads = c .reads; writes = c .writes; commits = c .commits; aborts = c .aborts + 1 }) ≡ raised kind (tallyOf c)
-  unfolding raised
-  raise-abort e = rw (e, add-one)
-
-  pub raise-other : (kind ≡ 1 → ⊥) → (kind ≡ 2 → ⊥) → (kind ≡ 3 → ⊥) → (kind ≡ 4 → ⊥) → tallyOf c ≡ raised kind (tallyOf c)
-  unfolding raised
-  raise-other f g h k = rw (ne-eqb kind 1 f, ne-eqb kind 2 g, ne-eqb kind 3 h, ne-eqb kind 4 k)
+pub raise-each : (c d : Counts) (kind : ℕ) → d .reads ≡ cond (eqb kind 1) (c .reads + 1) (c .reads) → d .writes ≡ cond (eqb kind 2) (c .writes + 1) (c .writes)
+    → d .commits ≡ cond (eqb kind 3) (c .commits + 1) (c .commits) → d .aborts ≡ cond (eqb kind 4) (c .aborts + 1) (c .aborts)
+    → tallyOf d ≡ raised kind (tallyOf c)
+unfolding raised
+raise-each c d kind r w m a = simp (r, w, m, a, add-one)
 
 -- ---- the records of a journal
 

@@ -15,6 +15,7 @@ use mir.ValLaws.{toZ-ofZ}
 use borrow.Author.Tests.{eq-eqb, ne-eqb}
 use Rattle.format.specs.declared.Record.{Record}
 use Rattle.model.specs.History.{Amount}
+use Rattle.journal.specs.Inputs.{lent}
 use Rattle.journal.specs.declared.Reason.{Reason}
 use Rattle.journal.specs.Reasons.{numberOf, placeOf}
 use Rattle.journal.specs.Journal.{count, opOf, history, whole, amountAt}
@@ -32,7 +33,7 @@ use Rattle.append.specs.declared.Outcome.the-variants as outcome
 use Rattle.append.specs.Answers.{tallyOf, planOf, Appends}
 use Rattle.append.specs.Entries.{FromTable, Admitted}
 use Rattle.append.proofs.KindCounts.{agreed-few}
-use Rattle.append.proofs.Judging.{accepted-only, refused-only}
+use Rattle.journal.proofs.Answered.{accepted-only, refused-only}
 
 -- ---- the new record
 
@@ -73,17 +74,17 @@ pub never : {A : Type 0} (why : Reason) (n : ℕ) → plan.Refused why ≡ plan.
 never why n e = let z : _≡_ {A = ℕ} 0 1 = cc in absurd (omega arith)
 
 module _ (b : List ℕ) (t : List Amount) (kind s x : ℕ) (a : Amount) (c : Counts) (r : Record) (e : r ≡ newRecord t kind s x a)
-    (p : Plan) (q : planOf p ≡ answered (decide (appendOrder b t (tallyOf c) r)) (count b)) where
-  pub append-refused : (why : Reason) → p ≡ plan.Refused why → Appends c b t kind s x a (outcome.Refused why) c b t
+    (p : Plan) (q : planOf p ≡ answered (decide (appendOrder (lent b t) (tallyOf c) r)) (count b)) where
+  pub append-refused : (why : Reason) → p ≡ plan.Refused why → Appends c (lent b t) kind s x a (outcome.Refused why) c b t
   unfolding append
   append-refused why y =
-      let z = refused-only _ _ (decide (appendOrder b t (tallyOf c) r)) _ (sym (ap planOf y) ∙ q) in
-      let d : decide (appendOrder b t (tallyOf c) (newRecord t kind s x a)) ≡ some (record { number = numberOf why; place = placeOf why }) = rw (← e) z in
+      let z = refused-only _ _ (decide (appendOrder (lent b t) (tallyOf c) r)) _ (sym (ap planOf y) ∙ q) in
+      let d : decide (appendOrder (lent b t) (tallyOf c) (newRecord t kind s x a)) ≡ some (record { number = numberOf why; place = placeOf why }) = rw (← e) z in
       record { answer = rw d; counts = rw d; journal = rw d; table = rw d }
 
   module _ (n : ℕ) (y : p ≡ plan.Enter n) where
-    passes : (decide (appendOrder b t (tallyOf c) r) ≡ none) × (n ≡ count b)
-    passes = accepted-only (decide (appendOrder b t (tallyOf c) r)) n (count b) (sym (ap planOf y) ∙ q)
+    passes : (decide (appendOrder (lent b t) (tallyOf c) r) ≡ none) × (n ≡ count b)
+    passes = accepted-only (decide (appendOrder (lent b t) (tallyOf c) r)) n (count b) (sym (ap planOf y) ∙ q)
 
     pub append-admitted : Admitted b t c n r
     append-admitted =
@@ -101,10 +102,10 @@ module _ (b : List ℕ) (t : List Amount) (kind s x : ℕ) (a : Amount) (c : Cou
         })
 
     pub append-done : (d : Counts) (b' : List ℕ) (t' : List Amount) → tallyOf d ≡ raised (r .kind) (tallyOf c) → b' ≡ extended b r → t' ≡ tableAfter (history b n) (opOf (n + 1) r) t
-        → Appends c b t kind s x a outcome.Done d b' t'
+        → Appends c (lent b t) kind s x a outcome.Done d b' t'
     unfolding append whole
     append-done d b' t' u v w =
-        let z : decide (appendOrder b t (tallyOf c) (newRecord t kind s x a)) ≡ none = rw (← e) (passes .0) in
+        let z : decide (appendOrder (lent b t) (tallyOf c) (newRecord t kind s x a)) ≡ none = rw (← e) (passes .0) in
         let i : suc (count b) ≡ n + 1 = omega (arith, passes .1) in
         record {
           answer = rw z;

@@ -4,6 +4,7 @@ use mathlib.Core.Path.{_≡_}
 use mathlib.Core.List.{List}
 use Prim.Native.Nat.{ℕ, _≤_}
 use Rattle.model.specs.History.{Amount}
+use Rattle.journal.specs.Inputs.{Inputs}
 use Rattle.journal.specs.Refusals.{Tally}
 use Rattle.journal.specs.Calls.{Answer, refused, accepted, append}
 use Rattle.journal.specs.Reasons.{numberOf, placeOf}
@@ -33,8 +34,8 @@ pub record Few (c : Counts) : Type 0 where
   pub aborts : c .aborts ≤ 3200
 
 -- the answer, the counts, the journal and the table that append leaves
-pub record Appends (c : Counts) (b : List ℕ) (t : List Amount) (kind s x : ℕ) (a : Amount) (r : Outcome) (c′ : Counts) (b′ : List ℕ) (t′ : List Amount) : Type 0 where
-  pub answer : answerOf r ≡ append b t (tallyOf c) kind s x a .answer
-  pub counts : tallyOf c′ ≡ append b t (tallyOf c) kind s x a .tally
-  pub journal : b′ ≡ append b t (tallyOf c) kind s x a .journal
-  pub table : t′ ≡ append b t (tallyOf c) kind s x a .table
+pub record Appends (c : Counts) (d : Inputs) (kind s x : ℕ) (a : Amount) (r : Outcome) (c′ : Counts) (b′ : List ℕ) (t′ : List Amount) : Type 0 where
+  pub answer : answerOf r ≡ append d (tallyOf c) kind s x a .answer
+  pub counts : tallyOf c′ ≡ append d (tallyOf c) kind s x a .tally
+  pub journal : b′ ≡ append d (tallyOf c) kind s x a .journal
+  pub table : t′ ≡ append d (tallyOf c) kind s x a .table

@@ -2,15 +2,15 @@
 -- Assumes nothing.
 use mathlib.Core.Path.{_≡_}
 use mathlib.Core.Bool.{false, cond, _&&_}
-use mathlib.Core.List.{List, _++_}
-use Prim.Native.Nat.{ℕ, suc, _+_, _*_, _<_, _≤_}
+use mathlib.Core.List.{List, [], _∷_}
+use Prim.Native.Nat.{ℕ, _+_, _*_, _<_, _≤_}
 use lib.Dec.{eqb}
 use lib.ListN.{length, set}
 use Rattle.format.specs.declared.Record.{Record}
 use Rattle.model.specs.History.{Amount}
-use Rattle.journal.specs.Journal.{count, items, txIn, opOf, history, whole, amountAt}
-use Rattle.journal.specs.Refusals.{Tally, malformed, closed, crossed, blind, noRoom, wrongTally}
-use Rattle.journal.specs.Orders.{Order, try}
+use Rattle.journal.specs.Journal.{count, items, txIn, history, amountAt}
+use Rattle.journal.specs.Refusals.{Tally, malformed}
+use Rattle.journal.specs.Orders.{Order, inTurn, tallyOrder, newOrder}
 use Rattle.rules.specs.Arrays.{Ready, Linked, endsOf, writesOf, readsOf}
 use Rattle.append.specs.declared.Counts.{Counts}
 use Rattle.append.specs.Answers.{Few}
@@ -23,17 +23,9 @@ restoredBy s r t = cond (eqb (r .kind) 2 && eqb s (txIn r)) (set t (r .item .0) 
 abbrev pub FromTable : List Amount → Record → Type 0
 FromTable t r = r .kind ≡ 2 → r .before ≡ amountAt t (r .item .0)
 
--- 4, 6, 7, 8 for the new record, then 14
-unfoldable pub newOrder : List ℕ → Record → Order
-newOrder b r =
-    try 4 (suc (count b)) (malformed (items b) r)
-    ++ (try 6 (suc (count b)) (closed (whole b) (opOf (suc (count b)) r))
-    ++ (try 7 (suc (count b)) (crossed (whole b) (opOf (suc (count b)) r))
-    ++ (try 8 (suc (count b)) (blind (whole b) (opOf (suc (count b)) r)) ++ try 14 0 (noRoom b))))
-
 -- append after check: 15, then the new record
 unfoldable pub entryOrder : List ℕ → Tally → Record → Order
-entryOrder b c r = try 15 0 (wrongTally b c) ++ newOrder b r
+entryOrder b c r = inTurn (tallyOrder b c ∷ newOrder b r ∷ [])
 
 -- ---- the working arrays after the first n records, as far as rules 6 to 8 ask
 

@@ -2,9 +2,9 @@
 -- Assumes nothing.
 use mathlib.Core.Path.{_≡_, refl, sym, _∙_, ap}
 use mathlib.Core.Bool.{Bool, true, false, _&&_}
-use mathlib.Core.List.{List, [], _∷_, _++_}
+use mathlib.Core.List.{List, [], _∷_}
 use mathlib.Core.Option.{Option, none, some}
-use Prim.Native.Nat.{ℕ, zero, suc, _+_, _<_, _≤_}
+use Prim.Native.Nat.{ℕ, zero, suc, _<_, _≤_}
 use native.Mathlib.Omega.{arith}
 use lib.Dec.{eqb, ltb}
 use lib.ListN.{length, length-append}
@@ -16,13 +16,11 @@ use Rattle.format.specs.Layout.{recordAt}
 use Rattle.model.specs.History.{Op, History, txOf, tagOf, tagIn, ofTx, laterOf}
 use Rattle.model.proofs.Extension.{Numbered, first-tag}
 use Rattle.journal.specs.Journal.{count, txIn, opOf, history, whole}
-use Rattle.journal.specs.Orders.{decide, openOrder, recordsOrder}
 use Rattle.journal.specs.Calls.{walk, chainOf}
-use Rattle.journal.proofs.Clear.{decide-clear, clear-left, clear-right}
-use Rattle.journal.proofs.Checked.{Sound, clear-sound}
+use Rattle.journal.proofs.Checked.{Sound, decide-sound}
 use Rattle.journal.proofs.Records.{txOf-opOf, tagOf-opOf, length-history}
 use Rattle.journal.proofs.Unrefused.{chained-next, history-numbered}
-use Rattle.rules.proofs.Found.{Found, nothing, at, first-found}
+use Rattle.rules.proofs.Found.{Found, at, first-found}
 use Rattle.chain.specs.Visits.{numbersOf, Visits, Counts}
 use Rattle.chain.proofs.Steps.{walk-end, walk-step}
 
@@ -159,11 +157,8 @@ module _ (b : List ℕ) (k : Sound b) (s : ℕ) where
       length-keep f [] = omega arith
       length-keep f (r ∷ p) = let ih = length-keep f p in byCases (f r) (λ e. rw e (omega arith)) (λ e. rw e (omega arith))
 
-sound : (b : List ℕ) → decide (openOrder b ++ recordsOrder b) ≡ none → Sound b
-sound b e = let c = decide-clear (openOrder b ++ recordsOrder b) e in clear-sound b (clear-left (openOrder b) (recordsOrder b) c) (clear-right (openOrder b) (recordsOrder b) c)
-
 pub visits : Visits
-visits b s e = chain-numbers b (sound b e) s
+visits b s e = chain-numbers b (decide-sound b e) s
 
 pub counts : Counts
 counts b s e = ap length (visits b s e) ∙ length-numbers (keep (ofTx s) (whole b))

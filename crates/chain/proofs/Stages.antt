@@ -2,9 +2,9 @@
 -- Assumes nothing.
 use mathlib.Core.Path.{_≡_, refl, sym, _∙_, ap}
 use mathlib.Core.Bool.{Bool, true, false, cond}
-use mathlib.Core.List.{List, _++_, append-assoc}
+use mathlib.Core.List.{List, [], _∷_}
 use mathlib.Core.Option.{Option, none, some, Option·none-ne-some}
-use Prim.Native.Nat.{ℕ, _+_, _<_, _≤_}
+use Prim.Native.Nat.{ℕ, _<_, _≤_}
 use native.Mathlib.Omega.{arith}
 use lib.Dec.{eqb, ltb}
 use lib.ListN.{length, getD, List·getD-eq-default}
@@ -18,10 +18,11 @@ use Rattle.journal.specs.declared.Reason.{Reason}
 use Rattle.journal.specs.Reasons.{numberOf, placeOf}
 use Rattle.journal.specs.Journal.{count, items, txIn, history, whole}
 use Rattle.journal.specs.Refusals.{absent, tooShort}
-use Rattle.journal.specs.Orders.{Refusal, try, decide, openOrder, recordsOrder, chainOrder}
+use Rattle.journal.specs.Orders.{try, decide, openOrder, recordsOrder, presentOrder, capacityOrder, chainOrder}
 use Rattle.journal.specs.Calls.{Answer, refused, accepted, answered, walk, written, chainOf, chain}
-use Rattle.journal.proofs.OrdersLaws.{decide-append, decide-yes, decide-no}
-use Rattle.journal.proofs.Clear.{decide-clear, clear-decide, clear-left, clear-right}
+use Rattle.journal.proofs.OrdersLaws.{decide-yes, decide-no, decide-turn, decide-one, decide-turns}
+use Rattle.journal.proofs.Clear.{decide-clear, clear-decide, turns-clear}
+use Rattle.journal.proofs.Answered.{accepted-only, refused-only}
 use Rattle.journal.proofs.Checked.{clear-sound}
 use Rattle.journal.proofs.Records.{txOf-opOf}
 use Rattle.journal.proofs.Unrefused.{sound-long}
@@ -35,19 +36,11 @@ use Rattle.rules.specs.Answers.{verdictOf}
 use Rattle.rules.specs.Recent.{firstTag}
 use Rattle.rules.specs.Arrays.{Ready, State, firstsOf}
 use Rattle.rules.proofs.ArraysLaws.{firsts-at, length-firsts}
-use Rattle.rules.proofs.Found.{Found, nothing, at, first-found, found-none, found-bound, passed-range}
+use Rattle.rules.proofs.Found.{Found, at, first-found, found-none, found-bound, core-right, passed-range}
 use Rattle.validate.proofs.Whole.{passed-ready}
 use Rattle.chain.specs.declared.Begun.{Begun}
 use Rattle.chain.specs.declared.Begun.the-variants as begun
-use Rattle.chain.specs.Answers.{begunOf, firstIn, firstOrder}
-
-accepted-only : {A : Type 0} (d : Option Refusal) (x y : A) → accepted x ≡ answered d y → (d ≡ none) × (x ≡ y)
-accepted-only none x y e = let z : x ≡ y = cc in (refl, z)
-accepted-only (some r) x y e = let z : _≡_ {A = ℕ} 0 1 = cc in absurd (omega arith)
-
-refused-only : {A : Type 0} (k l : ℕ) (d : Option Refusal) (x : A) → refused k l ≡ answered d x → d ≡ some (record { number = k; place = l })
-refused-only k l none x e = let z : _≡_ {A = ℕ} 0 1 = cc in absurd (omega arith)
-refused-only k l (some r) x e = let i : k ≡ r .number = cc in let j : l ≡ r .place = cc in rw (i, j)
+use Rattle.chain.specs.Answers.{begunOf, firstIn, firstOrder, beginOrder}
 
 -- ---- 12: the first record
 
@@ -59,10 +52,6 @@ module _ (l : List ℕ) (s : ℕ) where
   pub first-zero : (i : ℕ) → i ≡ getD l s 0 → i ≡ 0 → refused 12 0 ≡ firstIn l s
   unfolding firstIn
   first-zero i e z = rw (← e, z)
-
-  pub first-above : length l ≤ s → refused 12 0 ≡ firstIn l s
-  unfolding firstIn
-  first-above h = rw (List·getD-eq-default l 0 {n = s} h)
 
 -- a transaction above 1,024 has no record
 none-above : (b : List ℕ) (n s : ℕ) → Ready b n → 1025 ≤ s → firstTag (history b n) s ≡ 0
@@ -99,8 +88,8 @@ absent-first b s =
 
 module _ (b : List ℕ) (n m s : ℕ) (o : Opened b n m) (v : Verdict) (q : verdictOf v ≡ decide (recordsOrder b)) where
   first-parts : decide (firstOrder b s) ≡ orElse (verdictOf v) (decide (try 12 0 (absent b s)))
-  unfolding firstOrder
-  first-parts = decide-append (recordsOrder b) (try 12 0 (absent b s)) ∙ rw q
+  unfolding firstOrder presentOrder
+  first-parts = decide-turn (recordsOrder b) (presentOrder b s ∷ []) ∙ rw (q, decide-one (presentOrder b s))
 
   pub first-refused : (why : Reason) → v ≡ verdict.Refused why → refused (numberOf why) (placeOf why) ≡ answered (decide (firstOrder b s)) (firstTag (whole b) s)
   first-refused why e = rw (first-parts, e)
@@ -118,47 +107,50 @@ module _ (b : List ℕ) (n m s : ℕ) (o : Opened b n m) (v : Verdict) (q : verd
 
 -- ---- the head
 
+begin-parts : (b : List ℕ) (s : ℕ) → decide (beginOrder b s) ≡ orElse (decide (openOrder b)) (decide (firstOrder b s))
+unfolding beginOrder firstOrder
+begin-parts b s = decide-turn (openOrder b) (recordsOrder b ∷ presentOrder b s ∷ [])
+
 module _ (b : List ℕ) (s : ℕ) (h : Headed) (q : headerOf h ≡ answered (decide (openOrder b)) (record { records = count b; items = items b })) where
-  pub begin-refused : (why : Reason) → h ≡ headed.Refused why → refused (numberOf why) (placeOf why) ≡ answered (decide (openOrder b ++ firstOrder b s)) (firstTag (whole b) s)
+  pub begin-refused : (why : Reason) → h ≡ headed.Refused why → refused (numberOf why) (placeOf why) ≡ answered (decide (beginOrder b s)) (firstTag (whole b) s)
   begin-refused why e =
       let z = sym (ap headerOf e) ∙ q in
-      rw (decide-append (openOrder b) (firstOrder b s), refused-only _ _ (decide (openOrder b)) _ z)
+      rw (begin-parts b s, refused-only _ _ (decide (openOrder b)) _ z)
 
   pub begin-right : (n m : ℕ) (r : Answer ℕ) → h ≡ headed.Counts n m → r ≡ answered (decide (firstOrder b s)) (firstTag (whole b) s)
-      → r ≡ answered (decide (openOrder b ++ firstOrder b s)) (firstTag (whole b) s)
+      → r ≡ answered (decide (beginOrder b s)) (firstTag (whole b) s)
   begin-right n m r e g =
       let z = accepted-only (decide (openOrder b)) _ _ (sym (ap headerOf e) ∙ q) in
-      rw (decide-append (openOrder b) (firstOrder b s), z .0) g
+      rw (begin-parts b s, z .0) g
 
 -- ---- 14: the room
 
-opened-ready : (b : List ℕ) (s : ℕ) → decide (openOrder b ++ firstOrder b s) ≡ none → Ready b (count b)
-unfolding firstOrder recordsOrder
+opened-ready : (b : List ℕ) (s : ℕ) → decide (beginOrder b s) ≡ none → Ready b (count b)
+unfolding beginOrder recordsOrder
 opened-ready b s e =
-    let c = decide-clear (openOrder b ++ firstOrder b s) e in
-    let r = clear-left (recordsOrder b) (try 12 0 (absent b s)) (clear-right (openOrder b) (firstOrder b s) c) in
-    let k = clear-sound b (clear-left (openOrder b) (firstOrder b s) c) r in
+    let (opens, (records, (present, end))) = turns-clear _ (decide-clear (beginOrder b s) e) in
+    let k = clear-sound b opens records in
     let h = head-facts b (k .head) in
     let l = sound-long k in
-    record { long = omega arith; few = h .few; items = h .most; passed = clear-decide r }
+    record { long = omega arith; few = h .few; items = h .most; passed = λ i h. core-right (k .right i h) }
 
-module _ (b : List ℕ) (s : ℕ) (l : List ℕ) (g : Begun) (q : begunOf g ≡ answered (decide (openOrder b ++ firstOrder b s)) (firstTag (whole b) s)) where
-  chain-parts : (n : ℕ) → decide (chainOrder b s l n) ≡ orElse (decide (openOrder b ++ firstOrder b s)) (decide (try 14 0 (tooShort l n)))
-  unfolding chainOrder firstOrder
+module _ (b : List ℕ) (s : ℕ) (l : List ℕ) (g : Begun) (q : begunOf g ≡ answered (decide (beginOrder b s)) (firstTag (whole b) s)) where
+  chain-parts : (n : ℕ) → decide (chainOrder b s l n) ≡ orElse (decide (beginOrder b s)) (decide (try 14 0 (tooShort l n)))
+  unfolding chainOrder beginOrder capacityOrder
   chain-parts n =
-      decide-append (openOrder b ++ recordsOrder b ++ try 12 0 (absent b s)) (try 14 0 (tooShort l n))
-      ∙ ap (λ o. orElse (decide o) (decide (try 14 0 (tooShort l n)))) (append-assoc (openOrder b) (recordsOrder b) (try 12 0 (absent b s)))
+      decide-turns (openOrder b ∷ recordsOrder b ∷ presentOrder b s ∷ []) (capacityOrder l n ∷ [])
+      ∙ ap (orElse (decide (beginOrder b s))) (decide-one (capacityOrder l n))
 
   pub chain-refused : (why : Reason) → g ≡ begun.Refused why → (refused (numberOf why) (placeOf why) ≡ chain b s l .answer) × (l ≡ chain b s l .lsns)
   unfolding chain
   chain-refused why e =
-      let z = refused-only _ _ (decide (openOrder b ++ firstOrder b s)) _ (sym (ap begunOf e) ∙ q) in
+      let z = refused-only _ _ (decide (beginOrder b s)) _ (sym (ap begunOf e) ∙ q) in
       let d : decide (chainOrder b s l (length (chainOf b s))) ≡ some (record { number = numberOf why; place = placeOf why }) = chain-parts (length (chainOf b s)) ∙ rw z in
       (rw d, rw d)
 
   module _ (i : ℕ) (e : g ≡ begun.At i) where
-    passes : (decide (openOrder b ++ firstOrder b s) ≡ none) × (i ≡ firstTag (whole b) s)
-    passes = accepted-only (decide (openOrder b ++ firstOrder b s)) i _ (sym (ap begunOf e) ∙ q)
+    passes : (decide (beginOrder b s) ≡ none) × (i ≡ firstTag (whole b) s)
+    passes = accepted-only (decide (beginOrder b s)) i _ (sym (ap begunOf e) ∙ q)
 
     pub chain-ready : Ready b (count b)
     chain-ready = opened-ready b s (passes .0)

@@ -31,12 +31,12 @@ module _ (b : List ℕ) (k : Ready b (count b)) (i : ℕ) (z : i ≡ 0 → ⊥) 
       go (suc i) z l = chained-next b (suc i) (passed-right b (count b) (k .passed) i l .chained)
 
   -- next is a record
-  pub next-low : recordAt b i .next .0 ≤ count b
+  next-low : recordAt b i .next .0 ≤ count b
   unfolding whole
   next-low = rw next-is (found-bound (first-found (laterOf i (txIn (recordAt b i))) b (count b)))
 
   -- and a later one
-  pub next-later : (recordAt b i .next .0 ≡ 0 → ⊥) → i < recordAt b i .next .0
+  next-later : (recordAt b i .next .0 ≡ 0 → ⊥) → i < recordAt b i .next .0
   next-later h =
       let f = laterOf i (txIn (recordAt b i)) in
       byCases (any f (whole b))

@@ -1,12 +1,11 @@
 -- Document 01's answer for each case of the walk's, and the stage that finds a transaction's first record.
 -- Assumes nothing.
 use mathlib.Core.Bool.{cond}
-use mathlib.Core.List.{List, _++_}
+use mathlib.Core.List.{List, [], _∷_}
 use Prim.Native.Nat.{ℕ}
 use lib.Dec.{eqb}
 use lib.ListN.{getD}
-use Rattle.journal.specs.Refusals.{absent}
-use Rattle.journal.specs.Orders.{Order, try, recordsOrder}
+use Rattle.journal.specs.Orders.{Order, inTurn, openOrder, recordsOrder, presentOrder}
 use Rattle.journal.specs.Calls.{Answer, refused, accepted}
 use Rattle.journal.specs.Reasons.{numberOf, placeOf}
 use Rattle.chain.specs.declared.Walk.{Walk}
@@ -28,4 +27,8 @@ firstIn firsts s = cond (eqb (getD firsts s 0) 0) (refused 12 0) (accepted (getD
 
 -- slip after the head: 4 to 9, then 12
 unfoldable pub firstOrder : List ℕ → ℕ → Order
-firstOrder b s = recordsOrder b ++ try 12 0 (absent b s)
+firstOrder b s = inTurn (recordsOrder b ∷ presentOrder b s ∷ [])
+
+-- slip up to 12
+unfoldable pub beginOrder : List ℕ → ℕ → Order
+beginOrder b s = inTurn (openOrder b ∷ recordsOrder b ∷ presentOrder b s ∷ [])

@@ -9,7 +9,7 @@ use lib.ListN.{length}
 use Rattle.lists.specs.Search.{keep}
 use Rattle.model.specs.History.{History, tagOf, ofTx}
 use Rattle.journal.specs.Journal.{whole}
-use Rattle.journal.specs.Orders.{decide, openOrder, recordsOrder}
+use Rattle.journal.specs.Orders.{soundOrder, decide}
 use Rattle.journal.specs.Calls.{chainOf}
 
 -- the record numbers of operations, oldest first
@@ -18,7 +18,7 @@ numbersOf [] = []
 numbersOf (r ∷ p) = numbersOf p ++ tagOf r ∷ []
 
 abbrev pub Visits : Type 0
-Visits = (b : List ℕ) (s : ℕ) → decide (openOrder b ++ recordsOrder b) ≡ none → chainOf b s ≡ numbersOf (keep (ofTx s) (whole b))
+Visits = (b : List ℕ) (s : ℕ) → decide (soundOrder b) ≡ none → chainOf b s ≡ numbersOf (keep (ofTx s) (whole b))
 
 abbrev pub Counts : Type 0
-Counts = (b : List ℕ) (s : ℕ) → decide (openOrder b ++ recordsOrder b) ≡ none → length (chainOf b s) ≡ length (keep (ofTx s) (whole b))
+Counts = (b : List ℕ) (s : ℕ) → decide (soundOrder b) ≡ none → length (chainOf b s) ≡ length (keep (ofTx s) (whole b))

@@ -1,19 +1,19 @@
 // The chain of one transaction: its record numbers, found by following next from its first record.
 ghost use mathlib.Core.Path.{_≡_};
-ghost use mathlib.Core.List.{_++_};
 ghost use Prim.Native.Nat.{_≤_};
 ghost use lib.ListN.{length};
 ghost use Rattle.journal.specs.Journal.{count, whole};
-ghost use Rattle.journal.specs.Orders.{decide, openOrder};
+ghost use Rattle.journal.specs.Orders.{decide};
 ghost use Rattle.journal.specs.Calls as calls;
 ghost use Rattle.fields.specs.Answers.{Opened};
 ghost use Rattle.rules.specs.Recent.{firstTag};
 ghost use Rattle.rules.specs.Arrays.{Ready};
-ghost use Rattle.chain.specs.Answers.{answerOf, begunOf, firstIn, firstOrder};
+ghost use Rattle.chain.specs.Answers.{answerOf, begunOf, firstIn, firstOrder, beginOrder};
 use fields::Headed;
 use fields::header;
 use format::next_at;
 use journal::Reason;
+use lists::number_at;
 use rules::Verdict;
 use validate::records;
 
@@ -33,15 +33,11 @@ enum Begun {
 fn first_of(firsts: &[u32], s: usize) -> Begun
     ensures { λ r. ⌜ begunOf r ≡ firstIn (now (firsts .entry)) s ⌝ }
 {
-    if s < firsts.len() {
-        let first = firsts[s];
-        if first == 0 {
-            Begun::Refused(Reason::Unknown(0))
-        } else {
-            Begun::At(first)
-        }
-    } else {
+    let first = number_at(firsts, s);
+    if first == 0 {
         Begun::Refused(Reason::Unknown(0))
+    } else {
+        Begun::At(first)
     }
 }
 
@@ -78,7 +74,7 @@ fn begin_opened(journal: &[u8], n: usize, keys: u32, s: usize) -> Begun
 
 // The first record of transaction s, or the first refusal of 1, 2, 4 to 9 and 12.
 fn begin(journal: &[u8], s: usize) -> Begun
-    ensures { λ r. ⌜ begunOf r ≡ calls.answered (decide (openOrder (now (journal .entry)) ++ firstOrder (now (journal .entry)) s)) (firstTag (whole (now (journal .entry))) s) ⌝ }
+    ensures { λ r. ⌜ begunOf r ≡ calls.answered (decide (beginOrder (now (journal .entry)) s)) (firstTag (whole (now (journal .entry))) s) ⌝ }
 {
     let head = header(journal);
     let Headed::Counts(n, keys) = head else {

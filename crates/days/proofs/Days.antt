@@ -1,79 +1,57 @@
--- The worked days hold: one theorem over the whole table, by computation.
+-- The worked days hold: one test, computed over the whole table, and the lemma that turns it into the equation of each row.
 -- Document 01, "Days to try". Assumes nothing.
-use mathlib.Core.Path.{refl, sym, _∙_}
-use mathlib.Core.List.{List, [], _∷_, _++_}
+use mathlib.Core.Path.{_≡_, refl, ap}
+use mathlib.Core.Bool.{Bool, true, false, cond, false≢true}
+use mathlib.Core.List.{List, [], _∷_}
+use Prim.Native.Nat.{ℕ, suc}
+use Rattle.lists.proofs.BoolLaws.{byCases}
+use Rattle.journal.specs.Inputs.{lent}
+use Rattle.journal.specs.Calls.{start, append, check, chain, undo}
 use Rattle.days.proofs.Computed.{computed}
-use Rattle.days.specs.Journals.{example, exampleTable}
-use Rattle.days.specs.Days.{Row, undoing, Holds, AllHold, done, _&_, marks, blank, exampleLeft, startDays, appendDays, checkDays, chainDays, undoDays, undoRefusedDays, days, SecondRecord, RepeatedName}
+use Rattle.days.proofs.Tests.{starts, appends, checks, chains, undos}
+use Rattle.days.specs.Days.{Row, starting, appending, checking, chaining, undoing, Holds, AllHold, done, _&_, days, SecondRecord, RepeatedName}
 
--- two tables that hold, one after the other
-both : (a : List Row) {b : List Row} → AllHold a → AllHold b → AllHold (a ++ b)
-both [] done h = h
-both (r ∷ rs) (e & es) h = e & both rs es h
+-- the call gives what the row says
+abbrev passes : Row → Bool
+passes (starting b n e) = starts .same (start b n) e
+passes (appending b t c kind s x a e) = appends .same (append (lent b t) c kind s x a) e
+passes (checking b t e) = checks .same (check (lent b t)) e
+passes (chaining b s l e) = chains .same (chain b s l) e
+passes (undoing b t bad m o e) = undos .same (undo (lent b t) bad m o) e
 
-start-hold : AllHold startDays
-unfolding computed
-start-hold = refl & refl & refl & refl & refl & refl & done
+passes-holds : (r : Row) → passes r ≡ true → Holds r
+passes-holds (starting b n e) = starts .means (start b n) e
+passes-holds (appending b t c kind s x a e) = appends .means (append (lent b t) c kind s x a) e
+passes-holds (checking b t e) = checks .means (check (lent b t)) e
+passes-holds (chaining b s l e) = chains .means (chain b s l) e
+passes-holds (undoing b t bad m o e) = undos .means (undo (lent b t) bad m o) e
 
-append-hold : AllHold appendDays
-unfolding computed
-append-hold =
-    refl & refl & refl & refl & refl & refl & refl & refl & refl & refl
-    & refl & refl & refl & refl & refl & refl & refl & refl & refl & refl
-    & refl & refl & refl & refl & refl & refl & refl & refl & refl & refl
-    & refl
-    & done
+-- the positions, from k on, of the rows that do not pass
+abbrev failing : ℕ → List Row → List ℕ
+failing k [] = []
+failing k (r ∷ rs) = let rest : List ℕ = failing (suc k) rs in cond (passes r) rest (k ∷ rest)
 
-check-hold : AllHold checkDays
-unfolding computed
-check-hold =
-    refl & refl & refl & refl & refl & refl & refl & refl & refl & refl
-    & refl & refl & refl & refl & refl & refl & refl & refl & refl & refl
-    & refl & refl & refl & refl & refl & refl & refl & refl & refl & refl
-    & refl & refl & refl & refl & refl & refl & refl & refl & refl & refl
-    & refl & refl & refl & refl & refl & refl & refl & refl & refl & refl
-    & refl & refl & refl & refl & refl & refl & refl & refl & refl & refl
-    & refl & refl & refl & refl & refl & refl & refl
-    & done
+empty : List ℕ → Bool
+empty [] = true
+empty (x ∷ l) = false
 
-chain-hold : AllHold chainDays
-unfolding computed
-chain-hold =
-    refl & refl & refl & refl & refl & refl & refl & refl & refl & refl
-    & refl & refl & refl & refl & refl & refl & refl
-    & done
-
-undo-hold : AllHold undoDays
-unfolding computed
-undo-hold =
-    refl & refl & refl & refl & refl & refl & refl & refl & refl & refl
-    & refl & refl & refl & refl & refl & refl & refl & refl & refl & refl
-    & refl & refl & refl & refl & refl & refl & refl
-    & done
-
-undo-refused-hold : AllHold undoRefusedDays
-unfolding computed
-undo-refused-hold =
-    refl & refl & refl & refl & refl & refl & refl & refl & refl & refl
-    & refl & refl & refl & refl & refl & refl
-    & done
+-- where none fails, each row holds
+none-failing : (k : ℕ) (rs : List Row) → failing k rs ≡ [] → AllHold rs
+unfolding empty
+none-failing k [] e = done
+none-failing k (r ∷ rs) e =
+    byCases (passes r)
+    (λ p. passes-holds r p & none-failing (suc k) rs (rw p at e))
+    (λ f. absurd (false≢true (ap empty (rw f at e))))
 
 pub days-hold : AllHold days
-days-hold =
-    both startDays start-hold (both appendDays append-hold (both checkDays check-hold (both chainDays chain-hold (both undoDays undo-hold undo-refused-hold))))
+unfolding computed
+days-hold = none-failing 1 days refl
 
 pub second-record : SecondRecord
 unfolding computed
 second-record = record { placed = refl; means = refl; bytes = refl }
 
--- list 1 1, and list 1: the same values
-repeated : Holds (undoing example exampleTable (1 ∷ 1 ∷ []) marks (blank 80) exampleLeft)
-unfolding computed
-repeated = refl
-
-once : Holds (undoing example exampleTable (1 ∷ []) marks (blank 80) exampleLeft)
-unfolding computed
-once = refl
-
 pub repeated-name : RepeatedName
-repeated-name = repeated ∙ sym once
+unfolding computed
+repeated-name = refl

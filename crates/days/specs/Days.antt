@@ -2,15 +2,18 @@
 -- written by hand from the document. `Holds` compares them with the definitions of the calls.
 -- Document 01, "Days to try", "The calls beside it" and "Reasons for handing it back". Assumes nothing.
 use mathlib.Core.Path.{_≡_}
-use mathlib.Core.List.{List, [], _∷_, _++_}
+use mathlib.Core.List.{List, [], _∷_, _++_, flatten}
 use Prim.Native.Nat.{ℕ}
 use lib.IntN.{pos, negsuc}
 use lib.ListN.{take, drop, replicate, set}
 use Rattle.format.specs.Layout.{recordAt, bytesOf}
 use Rattle.model.specs.History.{Amount}
+use Rattle.journal.specs.Inputs.{lent}
 use Rattle.journal.specs.Refusals.{Tally}
 use Rattle.journal.specs.Calls.{Answer, refused, accepted, Started, start, check, Walked, chain, Appended, append, Counts, Undone, undo}
-use Rattle.days.specs.Journals.{headOf, readBy, writeBy, commitBy, abortBy, p0, p1, p2, p320, p500, p1000, p1180, minus1, minus2, joined, record2, example, exampleTable, exampleWith, copyOf3, copyOf12, ten, late, lateTable, dropped, droppedTable, through, inTurn, afterRead, afterWrite, afterCommit, afterWrites, afterAbort, firstTable, writtenTable, rewritten, extremes, sale1024, sale1025, unmoved, readAfterEnd, endedTwice, crossedRead, crossedWrite, crossedBlind, blindWrite, readOfOther, readByOther, wrongBefore}
+use Rattle.example.specs.Records.{headOf, readBy, writeBy, commitBy, abortBy, p0, p1, p2, p320, p500, p1000, p1180, minus1, minus2}
+use Rattle.example.specs.Example.{record2, example, exampleTable}
+use Rattle.days.specs.Journals.{exampleWith, copyOf3, copyOf12, ten, late, lateTable, dropped, droppedTable, through, inTurn, afterRead, afterWrite, afterCommit, afterWrites, afterAbort, firstTable, writtenTable, rewritten, extremes, sale1024, sale1025, unmoved, readAfterEnd, endedTwice, crossedRead, crossedWrite, crossedBlind, blindWrite, readOfOther, readByOther, wrongBefore}
 
 -- ---- rows
 
@@ -25,10 +28,10 @@ pub data Row : Type 0 where
 -- the call gives just that
 abbrev pub Holds : Row → Type 0
 Holds (starting b n e) = start b n ≡ e
-Holds (appending b t c kind s x a e) = append b t c kind s x a ≡ e
-Holds (checking b t e) = check b t ≡ e
+Holds (appending b t c kind s x a e) = append (lent b t) c kind s x a ≡ e
+Holds (checking b t e) = check (lent b t) ≡ e
 Holds (chaining b s l e) = chain b s l ≡ e
-Holds (undoing b t bad m o e) = undo b t bad m o ≡ e
+Holds (undoing b t bad m o e) = undo (lent b t) bad m o ≡ e
 
 -- each row of a table holds
 infixr 60 _&_
@@ -125,14 +128,14 @@ appendDays =
     -- the first record of another transaction sets no next
     ∷ appending (afterWrite ++ blank 20) writtenTable (tally 1 1 0 0) 1 2 1 (pos 0) (record {
       answer = accepted tt;
-      journal = joined (headOf 3 3 ∷ readBy 1 2 0 ∷ writeBy 1 0 0 p500 p320 ∷ readBy 2 0 1 ∷ []);
+      journal = flatten (headOf 3 3 ∷ readBy 1 2 0 ∷ writeBy 1 0 0 p500 p320 ∷ readBy 2 0 1 ∷ []);
       table = writtenTable;
       tally = tally 2 1 0 0;
     })
     -- amounts below zero
-    ∷ appending (joined (headOf 1 1 ∷ readBy 1 0 0 ∷ []) ++ blank 20) (negsuc 1 ∷ []) (tally 1 0 0 0) 2 1 0 (negsuc 0) (record {
+    ∷ appending (flatten (headOf 1 1 ∷ readBy 1 0 0 ∷ []) ++ blank 20) (negsuc 1 ∷ []) (tally 1 0 0 0) 2 1 0 (negsuc 0) (record {
       answer = accepted tt;
-      journal = joined (headOf 2 1 ∷ readBy 1 2 0 ∷ writeBy 1 0 0 minus2 minus1 ∷ []);
+      journal = flatten (headOf 2 1 ∷ readBy 1 2 0 ∷ writeBy 1 0 0 minus2 minus1 ∷ []);
       table = negsuc 0 ∷ [];
       tally = tally 1 1 0 0;
     })
@@ -189,11 +192,11 @@ checkDays =
     -- its first ten records: transaction 3 is open
     ∷ checking ten exampleTable (accepted 1)
     -- two open transactions may read one item
-    ∷ checking (joined (headOf 2 1 ∷ readBy 1 0 0 ∷ readBy 2 0 0 ∷ [])) (pos 5 ∷ []) (accepted 2)
+    ∷ checking (flatten (headOf 2 1 ∷ readBy 1 0 0 ∷ readBy 2 0 0 ∷ [])) (pos 5 ∷ []) (accepted 2)
     -- an end may be a transaction's first record
-    ∷ checking (joined (headOf 2 1 ∷ commitBy 1 0 ∷ abortBy 2 0 ∷ [])) (pos 5 ∷ []) (accepted 0)
+    ∷ checking (flatten (headOf 2 1 ∷ commitBy 1 0 ∷ abortBy 2 0 ∷ [])) (pos 5 ∷ []) (accepted 0)
     -- the item field of an end is no item: a commit of 2 while 1 is open and has written item 0
-    ∷ checking (joined (headOf 3 1 ∷ readBy 1 2 0 ∷ writeBy 1 0 0 p500 p320 ∷ commitBy 2 0 ∷ [])) (pos 320 ∷ []) (accepted 1)
+    ∷ checking (flatten (headOf 3 1 ∷ readBy 1 2 0 ∷ writeBy 1 0 0 p500 p320 ∷ commitBy 2 0 ∷ [])) (pos 320 ∷ []) (accepted 1)
     -- the before of an item's first write is free
     ∷ checking (exampleWith 9 (writeBy 3 11 2 p2 p1180)) exampleTable (accepted 0)
     -- after a rollback the item stands at its amount of before
@@ -240,7 +243,7 @@ checkDays =
     ∷ checkRefused (set example 112 1) exampleTable 4 5
     ∷ checkRefused (set dropped 156 1) droppedTable 4 7
     -- transactions 0 and 1,025
-    ∷ checkRefused (joined (headOf 1 1 ∷ commitBy 0 0 ∷ [])) (pos 5 ∷ []) 4 1
+    ∷ checkRefused (flatten (headOf 1 1 ∷ commitBy 0 0 ∷ [])) (pos 5 ∷ []) 4 1
     ∷ checkRefused sale1025 (pos 5 ∷ []) 4 1
     -- 4 before 5 at one record; a lower record before a lower number
     ∷ checkRefused (set (set example 108 1) 104 7) exampleTable 4 5
@@ -258,7 +261,7 @@ checkDays =
     -- 6: a read after the commit; a second commit; a commit after the rollback
     ∷ checkRefused readAfterEnd (pos 5 ∷ []) 6 3
     ∷ checkRefused endedTwice (pos 5 ∷ []) 6 2
-    ∷ checkRefused (joined (headOf 2 1 ∷ abortBy 1 2 ∷ commitBy 1 0 ∷ [])) (pos 5 ∷ []) 6 2
+    ∷ checkRefused (flatten (headOf 2 1 ∷ abortBy 1 2 ∷ commitBy 1 0 ∷ [])) (pos 5 ∷ []) 6 2
     -- 7: a read of an item that another open transaction has written; a write of one that it has read; before 8
     ∷ checkRefused crossedRead (pos 320 ∷ []) 7 3
     ∷ checkRefused crossedWrite (pos 320 ∷ []) 7 3
@@ -348,7 +351,7 @@ undoDays =
       table = pos 320 ∷ pos 1 ∷ pos 1180 ∷ [];
       status = 0 ∷ 1 ∷ 2 ∷ 1 ∷ replicate 1021 0;
       out =
-          joined
+          flatten
           (headOf 8 3
           ∷ readBy 1 2 0
           ∷ record2
@@ -412,7 +415,7 @@ undoDays =
       answer = counted 1 1 1 60;
       table = pos 500 ∷ pos 1000 ∷ [];
       status = 0 ∷ 2 ∷ 0 ∷ 1 ∷ replicate 1021 0;
-      out = joined (headOf 2 2 ∷ readBy 3 2 1 ∷ commitBy 3 0 ∷ []);
+      out = flatten (headOf 2 2 ∷ readBy 3 2 1 ∷ commitBy 3 0 ∷ []);
     })
     -- * .. and does not stand between a committed write and a read: 3 reads what 1 wrote
     ∷ undoing through (pos 320 ∷ []) (1 ∷ []) marks (blank 20) (record {
@@ -427,7 +430,7 @@ undoDays =
       table = droppedTable;
       status = 0 ∷ 1 ∷ 0 ∷ 1 ∷ replicate 1021 0;
       out =
-          joined
+          flatten
           (headOf 5 2
           ∷ readBy 1 2 0
           ∷ writeBy 1 3 0 p500 p320
@@ -447,7 +450,7 @@ undoDays =
       answer = counted 1 2 0 80;
       table = pos 320 ∷ [];
       status = 0 ∷ 1 ∷ 2 ∷ 2 ∷ replicate 1021 0;
-      out = joined (headOf 3 1 ∷ readBy 1 2 0 ∷ writeBy 1 3 0 p500 p320 ∷ commitBy 1 0 ∷ []);
+      out = flatten (headOf 3 1 ∷ readBy 1 2 0 ∷ writeBy 1 3 0 p500 p320 ∷ commitBy 1 0 ∷ []);
     })
     -- by the same write and not by equal value: 1 wrote the amount that stood there, 2 read it
     ∷ undoing unmoved (pos 500 ∷ []) (1 ∷ []) marks (blank 20) (record {
@@ -488,7 +491,7 @@ undoRefusedDays =
     ∷ undoRefused example (pos 320 ∷ pos 0 ∷ pos 1181 ∷ []) (4 ∷ []) [] [] 10 2
     -- 11: an open sale, the lowest of them; before 13
     ∷ undoRefused ten exampleTable (1 ∷ []) marks (blank 200) 11 3
-    ∷ undoRefused (joined (headOf 2 1 ∷ readBy 2 0 0 ∷ readBy 1 0 0 ∷ [])) (pos 5 ∷ []) [] [] [] 11 1
+    ∷ undoRefused (flatten (headOf 2 1 ∷ readBy 2 0 0 ∷ readBy 1 0 0 ∷ [])) (pos 5 ∷ []) [] [] [] 11 1
     -- 13: marks of another length than 1,025; before 12
     ∷ undoRefused example exampleTable (1 ∷ []) (replicate 1024 7) (blank 80) 13 0
     ∷ undoRefused example exampleTable (1 ∷ []) (replicate 1026 7) (blank 80) 13 0
@@ -518,4 +521,4 @@ pub record SecondRecord : Type 0 where
 
 -- * list 1 1 equals list 1
 abbrev pub RepeatedName : Type 0
-RepeatedName = undo example exampleTable (1 ∷ 1 ∷ []) marks (blank 80) ≡ undo example exampleTable (1 ∷ []) marks (blank 80)
+RepeatedName = undo (lent example exampleTable) (1 ∷ 1 ∷ []) marks (blank 80) ≡ undo (lent example exampleTable) (1 ∷ []) marks (blank 80)

@@ -10,10 +10,12 @@ use lib.ListN.{length, replicate}
 use Rattle.lists.specs.Search.{first, member}
 use Rattle.lists.specs.Tables.{tabulate}
 use Rattle.model.specs.History.{History, Amount, read, write, commit, abort, other, ofTx, tagIn, committed}
-use Rattle.model.specs.Undo.{fed, fedBy, reached, committedIn, committedOut, undone, replayed}
+use Rattle.model.specs.Undo.{feeds, fed, fedBy, reached, committedIn, committedOut, undone, replayed}
+use Rattle.journal.specs.Inputs.{lent}
 use Rattle.journal.specs.Journal.{whole, amountAt}
 use Rattle.journal.specs.Calls.{statusOf, statuses, openingAt, Undone, undo}
-use Rattle.days.specs.Journals.{example, exampleTable, late, lateTable, inTurn}
+use Rattle.example.specs.Example.{example, exampleTable}
+use Rattle.days.specs.Journals.{late, lateTable, inTurn}
 use Rattle.days.specs.Days.{marks, blank}
 
 -- what a take-back leaves: the table and the marks
@@ -27,7 +29,7 @@ Rule = List ℕ → List ℕ → List Amount → Left
 
 -- the definition, with marks and paper that suffice on these days
 abbrev pub right : Rule
-right bad b t = let u : Undone = undo b t bad marks (blank 240) in record { table = u .table; status = u .status }
+right bad b t = let u : Undone = undo (lent b t) bad marks (blank 240) in record { table = u .table; status = u .status }
 
 -- a day on which a slip goes wrong
 pub record Caught (slip : Rule) (bad journal : List ℕ) (table : List Amount) (good wrong : Left) : Type 0 where
@@ -39,7 +41,7 @@ pub record Caught (slip : Rule) (bad journal : List ℕ) (table : List Amount) (
 abbrev pub leftBy : (ℕ → Bool) → (ℕ → Bool) → List ℕ → List Amount → Left
 leftBy back kept b t =
     record {
-      table = tabulate (λ x. replayed kept (openingAt b t x) (whole b) x) 0 (length t);
+      table = tabulate (λ x. replayed kept (openingAt (lent b t) x) (whole b) x) 0 (length t);
       status = tabulate (statusOf back kept) 0 1025;
     }
 
@@ -56,7 +58,7 @@ setBack back v (other i s ∷ p) x = setBack back v p x
 abbrev pub forward : Rule
 forward bad b t =
     record {
-      table = tabulate (λ x. setBack (undone bad (whole b)) (amountAt t x) (whole b) x) 0 (length t);
+      table = tabulate (λ x. setBack (undone feeds bad (whole b)) (amountAt t x) (whole b) x) 0 (length t);
       status = statuses bad (whole b);
     }
 
@@ -71,7 +73,7 @@ ForwardCaught =
 
 abbrev pub directReaders : List ℕ → History → List ℕ
 directReaders bad [] = bad
-directReaders bad (read i s x ∷ p) = let m : List ℕ = directReaders bad p in cond (fedBy bad (fed p s x)) (s ∷ m) m
+directReaders bad (read i s x ∷ p) = let m : List ℕ = directReaders bad p in cond (fedBy bad (fed feeds p s x)) (s ∷ m) m
 directReaders bad (write i s x b a ∷ p) = directReaders bad p
 directReaders bad (commit i s ∷ p) = directReaders bad p
 directReaders bad (abort i s ∷ p) = directReaders bad p
@@ -95,7 +97,7 @@ abbrev pub replayedAhead : List ℕ → (ℕ → Bool) → Amount → History �
 replayedAhead bad done d [] x = d
 replayedAhead bad done d (read i s y ∷ p) x = replayedAhead bad done d p x
 replayedAhead bad done d (write i s y b a ∷ p) x =
-    cond (eqb x y && (done s && not (member s (reached bad p)))) a (replayedAhead bad done d p x)
+    cond (eqb x y && (done s && not (member s (reached feeds bad p)))) a (replayedAhead bad done d p x)
 replayedAhead bad done d (commit i s ∷ p) x = replayedAhead bad done d p x
 replayedAhead bad done d (abort i s ∷ p) x = replayedAhead bad done d p x
 replayedAhead bad done d (other i s ∷ p) x = replayedAhead bad done d p x
@@ -103,7 +105,7 @@ replayedAhead bad done d (other i s ∷ p) x = replayedAhead bad done d p x
 abbrev pub ahead : Rule
 ahead bad b t =
     record {
-      table = tabulate (λ x. replayedAhead bad (committed (whole b)) (openingAt b t x) (whole b) x) 0 (length t);
+      table = tabulate (λ x. replayedAhead bad (committed (whole b)) (openingAt (lent b t) x) (whole b) x) 0 (length t);
       status = statuses bad (whole b);
     }
 

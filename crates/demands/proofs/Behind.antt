@@ -3,7 +3,7 @@
 use mathlib.Core.Path.{_≡_, refl, sym, _∙_, ap}
 use mathlib.Core.Bool.{Bool, true, false, cond}
 use mathlib.Core.List.{List, [], _∷_, _++_}
-use mathlib.Core.Option.{some, none}
+use mathlib.Core.Option.{Option, some}
 use Prim.Native.Nat.{ℕ, zero, suc, _+_, _*_, _<_, _≤_, pred}
 use native.Mathlib.Omega.{arith}
 use lib.Dec.{eqb, ltb}
@@ -20,27 +20,28 @@ use Rattle.format.specs.Bytes.{bytes}
 use Rattle.format.proofs.BytesLaws.{length-bytes}
 use Rattle.format.proofs.LayoutLaws.{length-bytesOf, recordAt-front}
 use Rattle.model.specs.History.{Op, Amount, ofTx, tagIn, laterOf}
+use Rattle.journal.specs.Inputs.{lent}
 use Rattle.journal.specs.Journal.{count, items, txIn, records, history, whole}
-use Rattle.journal.specs.Refusals.{Tally, short, torn, badHead, wrongTable, unchained, unsettled, stillActive, unknown, absent, tooShort, noRoom, wrongTally, badItems}
-use Rattle.journal.specs.Orders.{Refusal, try, decide, openOrder, recordOrder, recordsOrder, tableOrder, settledOrder, checkOrder, chainOrder, appendOrder, undoOrder, startOrder}
-use Rattle.journal.specs.Copy.{copyRecords, copy, headWith}
-use Rattle.journal.specs.Calls.{check, walk, chainOf, chain, link, extended, newRecord, append, undo, openingAt, tableLeft, counts, start}
+use Rattle.journal.specs.Refusals.{Tally, short, torn, badHead, wrongTable, unchained, unsettled, stillActive, unknown, absent, noRoom, wrongTally}
+use Rattle.journal.specs.Orders.{Refusal, tryEach, decide, openOrder, recordOrder, recordsOrder, soundOrder, tableOrder, settledOrder, activeOrder, knownOrder, presentOrder, capacityOrder, tallyOrder, newOrder, checkOrder, chainOrder, appendOrder, undoOrder, startOrder}
+use Rattle.journal.specs.Copy.{Rule, unchanged, recordsKept, copyKept, copy, headWith}
+use Rattle.journal.specs.Results.{tableKept, totals, result}
+use Rattle.journal.specs.Calls.{check, walk, chainOf, chain, link, extended, newRecord, append, undo, openingAt, start}
 use Rattle.model.proofs.Extension.{first-tag, latest-tag}
-use Rattle.journal.proofs.OrdersLaws.{decide-append-some, decide-cases}
-use Rattle.journal.proofs.Clear.{decide-clear, clear-left, clear-right, try-clear}
-use Rattle.journal.proofs.Checked.{Sound, clear-sound}
+use Rattle.journal.proofs.OrdersLaws.{decide-turns, decide-cases, tryEach-ext}
+use Rattle.journal.proofs.Clear.{decide-clear}
+use Rattle.journal.proofs.Checked.{Sound, decide-sound}
 use Rattle.journal.proofs.Unrefused.{room, chained-next, history-numbered}
-use Rattle.journal.proofs.Appending.{clear-appended, extended-behind}
+use Rattle.journal.proofs.Appending.{clear-start, clear-appended, extended-behind}
 use Rattle.journal.proofs.Records.{history-ext, length-history}
 use Rattle.demands.specs.Days.{accepts}
 use Rattle.demands.specs.Refusing.{Agree, Behind}
 use Rattle.demands.proofs.DaysLaws.{answered-none}
 
 -- a journal that fails 1, 2 or 4 to 9 is refused before its chain is walked
-refused-both : (b : List ℕ) (s : ℕ) (l : List ℕ) (n : ℕ) (r : Refusal) → decide (openOrder b ++ recordsOrder b) ≡ some r → decide (chainOrder b s l n) ≡ some r
-unfolding chainOrder
-refused-both b s l n r e =
-    decide-append-some (openOrder b ++ recordsOrder b ++ try 12 0 (absent b s)) (try 14 0 (tooShort l n)) (decide-append-some (openOrder b ++ recordsOrder b) (try 12 0 (absent b s)) e)
+refused-both : (b : List ℕ) (s : ℕ) (l : List ℕ) (n : ℕ) (r : Refusal) → decide (soundOrder b) ≡ some r → decide (chainOrder b s l n) ≡ some r
+unfolding chainOrder soundOrder
+refused-both b s l n r e = decide-turns (openOrder b ∷ recordsOrder b ∷ []) (presentOrder b s ∷ capacityOrder l n ∷ []) ∙ rw e
 
 module _ (b c : List ℕ) (a : Agree b c) where
   -- a record found in the whole journal has one of its numbers
@@ -108,45 +109,51 @@ module _ (b c : List ℕ) (a : Agree b c) where
   unfolding recordsOrder
   records-order = each-ext (recordOrder b) (recordOrder c) 1 1 (count b) (λ k h. record-order (1 + k) (omega arith)) ∙ ap (each (recordOrder c) 1) count-agree
 
+  sound-order : soundOrder b ≡ soundOrder c
+  unfolding soundOrder
+  sound-order = rw (open-agree, records-order)
+
   unsettled-agree : (t : List Amount) (x : ℕ) → unsettled b t x ≡ unsettled c t x
   unfolding unsettled
   unsettled-agree t x = rw whole-agree
 
-  settled-order : (t : List Amount) → settledOrder b t ≡ settledOrder c t
+  settled-order : (t : List Amount) → settledOrder (lent b t) ≡ settledOrder (lent c t)
   unfolding settledOrder
-  settled-order t =
-      each-ext (λ x. try 10 x (unsettled b t x)) (λ x. try 10 x (unsettled c t x)) 0 0 (items b) (λ k h. ap (try 10 (0 + k)) (unsettled-agree t (0 + k)))
-      ∙ ap (each (λ x. try 10 x (unsettled c t x)) 0) items-agree
+  settled-order t = tryEach-ext 10 (unsettled b t) (unsettled c t) 0 (items b) (λ x l u. unsettled-agree t x) ∙ ap (tryEach 10 (unsettled c t) 0) items-agree
 
-  pub check-order : (t : List Amount) → checkOrder b t ≡ checkOrder c t
+  pub check-order : (t : List Amount) → checkOrder (lent b t) ≡ checkOrder (lent c t)
   unfolding checkOrder tableOrder wrongTable
   check-order t = rw (open-agree, items-agree, records-order, settled-order t)
 
-  check-agree : (t : List Amount) → check b t ≡ check c t
+  check-agree : (t : List Amount) → check (lent b t) ≡ check (lent c t)
   unfolding check
   check-agree t = rw (check-order t, whole-agree)
 
   -- ---- take-back
 
+  kept-agree : (φ : Rule) (k : ℕ → Bool) → copyKept φ k b ≡ copyKept φ k c
+  unfolding copyKept recordsKept
+  kept-agree φ k = rw (items-agree, whole-agree, records-agree)
+
   copy-agree : (bad : List ℕ) → copy bad b ≡ copy bad c
-  unfolding copy copyRecords
-  copy-agree bad = rw (items-agree, whole-agree, records-agree)
+  unfolding copy
+  copy-agree bad = rw (whole-agree, kept-agree)
 
-  left-agree : (bad : List ℕ) (t : List Amount) → tableLeft bad b t ≡ tableLeft bad c t
-  unfolding tableLeft openingAt
-  left-agree bad t = rw whole-agree
+  result-agree : (φ : Rule) (u k : ℕ → Bool) (d : Option Refusal) (t : List Amount) (status out : List ℕ) → result φ u k d (lent b t) status out ≡ result φ u k d (lent c t) status out
+  unfolding result tableKept openingAt totals
+  result-agree φ u k d t status out = rw (whole-agree, kept-agree φ k)
 
-  counts-agree : (bad : List ℕ) → counts bad b ≡ counts bad c
-  unfolding counts
-  counts-agree bad = rw (whole-agree, copy-agree bad)
+  active-agree : activeOrder (stillActive b) ≡ activeOrder (stillActive c)
+  unfolding activeOrder stillActive
+  active-agree = tryEach-ext 11 _ _ 1 1024 (λ s l u. rw whole-agree)
 
-  undo-order : (t : List Amount) (bad status out : List ℕ) → undoOrder b t bad status out (length (copy bad b)) ≡ undoOrder c t bad status out (length (copy bad c))
-  unfolding undoOrder stillActive unknown
-  undo-order t bad status out = rw (check-order t, whole-agree, copy-agree bad)
+  undo-order : (t : List Amount) (bad status out : List ℕ) → undoOrder (lent b t) bad status out (length (copy bad b)) ≡ undoOrder (lent c t) bad status out (length (copy bad c))
+  unfolding undoOrder knownOrder unknown
+  undo-order t bad status out = rw (check-order t, active-agree, whole-agree, copy-agree bad)
 
-  undo-agree : (t : List Amount) (bad status out : List ℕ) → undo b t bad status out ≡ undo c t bad status out
+  undo-agree : (t : List Amount) (bad status out : List ℕ) → undo (lent b t) bad status out ≡ undo (lent c t) bad status out
   unfolding undo
-  undo-agree t bad status out = rw (undo-order t bad status out, counts-agree bad, left-agree bad t, whole-agree, copy-agree bad)
+  undo-agree t bad status out = rw (undo-order t bad status out, whole-agree) (result-agree unchanged _ _ _ t status out)
 
   -- ---- slip
 
@@ -167,24 +174,23 @@ module _ (b c : List ℕ) (a : Agree b c) where
   chainOf-agree k s = walk-agree k (count b) _ (within-whole (ofTx s)) ∙ rw (count-agree, whole-agree)
 
   chain-order : (s : ℕ) (l : List ℕ) (m n : ℕ) → m ≡ n → chainOrder b s l m ≡ chainOrder c s l n
-  unfolding chainOrder absent
+  unfolding chainOrder presentOrder absent
   chain-order s l m n e = rw (open-agree, records-order, whole-agree, e)
 
   chain-agree : (s : ℕ) (l : List ℕ) → chain b s l ≡ chain c s l
   unfolding chain
   chain-agree s l =
-      decide-cases (openOrder b ++ recordsOrder b)
+      decide-cases (soundOrder b)
       (λ z.
-      let d = decide-clear (openOrder b ++ recordsOrder b) z in
-      let k = clear-sound b (clear-left (openOrder b) (recordsOrder b) d) (clear-right (openOrder b) (recordsOrder b) d) in
+      let k = decide-sound b z in
       rw (chain-order s l (length (chainOf b s)) (length (chainOf c s)) (ap length (chainOf-agree k s)), chainOf-agree k s))
       (λ r z.
-      rw (refused-both b s l (length (chainOf b s)) r z, refused-both c s l (length (chainOf c s)) r (rw (open-agree, records-order) at z)))
+      rw (refused-both b s l (length (chainOf b s)) r z, refused-both c s l (length (chainOf c s)) r (rw sound-order at z)))
 
   -- ---- post
 
-  append-order : (t : List Amount) (n : Tally) (r : Record) → noRoom b ≡ noRoom c → appendOrder b t n r ≡ appendOrder c t n r
-  unfolding appendOrder wrongTally
+  append-order : (t : List Amount) (n : Tally) (r : Record) → noRoom b ≡ noRoom c → appendOrder (lent b t) n r ≡ appendOrder (lent c t) n r
+  unfolding appendOrder tallyOrder newOrder wrongTally
   append-order t n r e = rw (check-order t, whole-agree, items-agree, count-agree, e)
 
   module _ (r : Record) (e : noRoom b ≡ noRoom c) (f : noRoom b ≡ false) where
@@ -228,10 +234,10 @@ module _ (b c : List ℕ) (a : Agree b c) where
         (front-added b room-left i l ∙ ap (λ d. store 4 (bytes 4 (suc (count b))) (link (suc (count b)) i (d ++ bytesOf r))) (a .same) ∙ sym (front-added c room-right i l))
 
   append-agree : (t : List Amount) (n : Tally) (kind s x : ℕ) (v : Amount) → noRoom b ≡ noRoom c
-      → (append b t n kind s x v .answer ≡ append c t n kind s x v .answer) × (append b t n kind s x v .table ≡ append c t n kind s x v .table)
-      × (append b t n kind s x v .tally ≡ append c t n kind s x v .tally)
-      × (accepts (append b t n kind s x v .answer) ≡ true
-      → take (20 * (count b + 1) + 20) (append b t n kind s x v .journal) ≡ take (20 * (count b + 1) + 20) (append c t n kind s x v .journal))
+      → (append (lent b t) n kind s x v .answer ≡ append (lent c t) n kind s x v .answer) × (append (lent b t) n kind s x v .table ≡ append (lent c t) n kind s x v .table)
+      × (append (lent b t) n kind s x v .tally ≡ append (lent c t) n kind s x v .tally)
+      × (accepts (append (lent b t) n kind s x v .answer) ≡ true
+      → take (20 * (count b + 1) + 20) (append (lent b t) n kind s x v .journal) ≡ take (20 * (count b + 1) + 20) (append (lent c t) n kind s x v .journal))
   unfolding append
   append-agree t n kind s x v e =
       let r : Record = newRecord t kind s x v in
@@ -240,34 +246,30 @@ module _ (b c : List ℕ) (a : Agree b c) where
         rw (o, whole-agree, count-agree),
         rw o,
         λ h.
-            let d = answered-none (decide (appendOrder b t n r)) tt h in
-            let f = clear-appended b t n r (decide-clear (appendOrder b t n r) d) .2 .room in
+            let d = answered-none (decide (appendOrder (lent b t) n r)) tt h in
+            let f = clear-appended b t n r (decide-clear (appendOrder (lent b t) n r) d) .2 .room in
             rw (d, sym (ap decide o) ∙ d) (extended-agree r e f),
       )
 
 -- what an accepted post writes ends with its record
 behind-append : (b : List ℕ) (t : List Amount) (n : Tally) (kind s x : ℕ) (v : Amount)
-    → drop (20 * (count b + 1) + 20) (append b t n kind s x v .journal) ≡ drop (20 * (count b + 1) + 20) b
+    → drop (20 * (count b + 1) + 20) (append (lent b t) n kind s x v .journal) ≡ drop (20 * (count b + 1) + 20) b
 unfolding append
 behind-append b t n kind s x v =
     let r : Record = newRecord t kind s x v in
     let m : 20 * (count b + 2) ≡ 20 * (count b + 1) + 20 = omega arith in
-    decide-cases (appendOrder b t n r)
+    decide-cases (appendOrder (lent b t) n r)
     (λ z.
-    let f = clear-appended b t n r (decide-clear (appendOrder b t n r) z) .2 .room in
+    let f = clear-appended b t n r (decide-clear (appendOrder (lent b t) n r) z) .2 .room in
     rw z (ap (λ k. drop k (extended b r)) (sym m) ∙ extended-behind b r (room b f .1) ∙ ap (λ k. drop k b) m))
     (λ q z. rw z)
-
-start-short : (b : List ℕ) (n : ℕ) → decide (startOrder b n) ≡ none → short b ≡ false
-unfolding startOrder
-start-short b n z = try-clear 1 0 _ (clear-left (try 1 0 (short b)) (try 2 0 (badItems n)) (decide-clear (try 1 0 (short b) ++ try 2 0 (badItems n)) z))
 
 behind-start : (b : List ℕ) (n : ℕ) → drop 20 (start b n .journal) ≡ drop 20 b
 unfolding start short
 behind-start b n =
     decide-cases (startOrder b n)
     (λ z.
-    let l : 20 ≤ length b = ltb-false (length b) 20 (start-short b n z) in
+    let l : 20 ≤ length b = ltb-false (length b) 20 (clear-start b n (decide-clear (startOrder b n) z) .0) in
     rw z (drop-store 0 (bytesOf (headWith 0 n)) b (omega (arith, length-bytesOf (headWith 0 n))) 20 (omega (arith, length-bytesOf (headWith 0 n)))))
     (λ q z. rw z)
 
@@ -275,9 +277,9 @@ pub behind : Behind
 behind =
     record {
       start = behind-start;
-      check = λ b c t a. check-agree b c a t;
+      check = λ d c a. check-agree (d .journal) c a (d .table);
       chain = λ b c s l a. chain-agree b c a s l;
-      undo = λ b c t bad status out a. undo-agree b c a t bad status out;
-      behind = behind-append;
-      append = λ b c t n kind s x v a e. append-agree b c a t n kind s x v e;
+      undo = λ d c bad status out a. undo-agree (d .journal) c a (d .table) bad status out;
+      behind = λ d. behind-append (d .journal) (d .table);
+      append = λ d c n kind s x v a e. append-agree (d .journal) c a (d .table) n kind s x v e;
     }

@@ -1,14 +1,15 @@
 -- What it says that a call is accepted or refused, and that a journal and table pass.
 -- Assumes nothing.
-use mathlib.Core.Path.{_≡_, refl, sym, ap}
-use mathlib.Core.Bool.{true, false, false≢true}
+use mathlib.Core.Path.{_≡_, refl}
+use mathlib.Core.Bool.{true, false}
 use mathlib.Core.List.{List}
 use mathlib.Core.Option.{Option, none, some}
 use Prim.Native.Nat.{ℕ}
 use Rattle.lists.proofs.BoolLaws.{clash}
 use Rattle.model.specs.History.{Amount}
+use Rattle.journal.specs.Inputs.{lent}
 use Rattle.journal.specs.Orders.{Refusal, checkOrder}
-use Rattle.journal.specs.Calls.{Answer, refused, accepted, answered, after, check}
+use Rattle.journal.specs.Calls.{answered, after, check}
 use Rattle.journal.proofs.Clear.{decide-clear, clear-decide}
 use Rattle.journal.proofs.Checked.{Checks, checks-clear, clear-checks}
 use Rattle.demands.specs.Days.{accepts, Pass}
@@ -21,25 +22,10 @@ pub answered-some : {A B : Type 0} (d : Option Refusal) (a : A) (old new : B) �
 answered-some none a old new e = clash refl e
 answered-some (some r) a old new e = refl
 
-pub checks-pass : (b : List ℕ) (t : List Amount) → Checks b t → Pass b t
+pub checks-pass : (b : List ℕ) (t : List Amount) → Checks (lent b t) → Pass (lent b t)
 unfolding check
 checks-pass b t k = rw (clear-decide (checks-clear b t k))
 
-pub pass-checks : (b : List ℕ) (t : List Amount) → Pass b t → Checks b t
+pub pass-checks : (b : List ℕ) (t : List Amount) → Pass (lent b t) → Checks (lent b t)
 unfolding check
-pass-checks b t e = clear-checks b t (decide-clear (checkOrder b t) (answered-none _ _ e))
-
--- what a refusal says
-
-numberIn : {A : Type 0} → Answer A → ℕ
-numberIn (refused n p) = n
-numberIn (accepted a) = 0
-
-placeIn : {A : Type 0} → Answer A → ℕ
-placeIn (refused n p) = p
-placeIn (accepted a) = 0
-
-pub answered-refused : {A : Type 0} (d : Option Refusal) (a : A) (n p : ℕ) → answered d a ≡ refused n p → d ≡ some (record { number = n; place = p })
-unfolding numberIn placeIn
-answered-refused none a n p e = absurd (false≢true (sym (ap accepts e)))
-answered-refused (some r) a n p e = λ i. some (record { number = numberIn (e i); place = placeIn (e i) })
+pass-checks b t e = clear-checks b t (decide-clear (checkOrder (lent b t)) (answered-none _ _ e))

@@ -1,5 +1,6 @@
 pub mod CopyLaws
 pub mod DaysLaws
+pub mod Kept
 pub mod Left
 pub mod Undone
 pub mod Undoing
@@ -7,8 +8,5 @@ pub mod Deleted
 pub mod Join
 pub mod Cut
 pub mod Posting
-pub mod Examples
-pub mod PostingDay
 pub mod Refusing
 pub mod Behind
-pub mod WorkedDays

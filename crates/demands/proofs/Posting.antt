@@ -22,6 +22,7 @@ use Rattle.format.specs.Layout.{recordAt, Fitting}
 use Rattle.format.proofs.LayoutLaws.{recordAt-fitting}
 use Rattle.model.specs.History.{Op, Amount, current, initial}
 use Rattle.model.proofs.Extension.{settled-current}
+use Rattle.journal.specs.Inputs.{lent}
 use Rattle.journal.specs.Journal.{count, items, txIn, opOf, records, history, whole, amountAt}
 use Rattle.journal.specs.Refusals.{within, short, badItems, Tally, sameTally, tallied, malformed, wrongTally}
 use Rattle.journal.specs.Orders.{Refusal, decide, startOrder, appendOrder}
@@ -45,9 +46,9 @@ unfolding start
 started-clear b m e = decide-clear (startOrder b m) (answered-none _ _ e)
 
 pub record Good (d : Desk) : Type 0 where
-  pub bytes : Bytes (d .journal)
-  pub checks : Checks (d .journal) (d .table)
-  pub tally : d .tally ≡ tallied (whole (d .journal))
+  pub bytes : Bytes (d .inputs .journal)
+  pub checks : Checks (d .inputs)
+  pub tally : d .tally ≡ tallied (whole (d .inputs .journal))
 
 same-tally : (c : Tally) → sameTally c c ≡ true
 same-tally c = rw (eq-eqb (c .reads) (c .reads) refl, eq-eqb (c .writes) (c .writes) refl, eq-eqb (c .commits) (c .commits) refl, eq-eqb (c .aborts) (c .aborts) refl)
@@ -58,36 +59,36 @@ tally-right b c e = rw e (ap not (same-tally (tallied (whole b))))
 
 -- the record that a post would add
 abbrev entry : Desk → Post → Record
-entry d p = newRecord (d .table) (p .kind) (p .tx) (p .item) (p .after)
+entry d p = newRecord (d .inputs .table) (p .kind) (p .tx) (p .item) (p .after)
 
 -- a refused post leaves the desk as it is
 refused-next : (d : Desk) (p : Post) → accepts (posted d p .answer) ≡ false → deskAfter d p ≡ d
 unfolding append
 refused-next d p e =
-    let o : Option Refusal = decide (appendOrder (d .journal) (d .table) (d .tally) (entry d p)) in
-    let j : posted d p .journal ≡ d .journal = answered-some o tt (d .journal) _ e in
-    let t : posted d p .table ≡ d .table = answered-some o tt (d .table) _ e in
+    let o : Option Refusal = decide (appendOrder (d .inputs) (d .tally) (entry d p)) in
+    let j : posted d p .journal ≡ d .inputs .journal = answered-some o tt (d .inputs .journal) _ e in
+    let t : posted d p .table ≡ d .inputs .table = answered-some o tt (d .inputs .table) _ e in
     let c : posted d p .tally ≡ d .tally = answered-some o tt (d .tally) _ e in
-    λ i. record { journal = j i; table = t i; tally = c i }
+    λ i. record { inputs = lent (j i) (t i); tally = c i }
 
-accepted-clear : (d : Desk) (p : Post) → accepts (posted d p .answer) ≡ true → Clear (appendOrder (d .journal) (d .table) (d .tally) (entry d p))
+accepted-clear : (d : Desk) (p : Post) → accepts (posted d p .answer) ≡ true → Clear (appendOrder (d .inputs) (d .tally) (entry d p))
 unfolding append
 accepted-clear d p e = decide-clear _ (answered-none _ _ e)
 
 module _ (d : Desk) (p : Post) where
-  enters-clear : Good d → Enters (d .journal) (entry d p) → Clear (appendOrder (d .journal) (d .table) (d .tally) (entry d p))
-  enters-clear g e = append-clear (d .journal) (d .table) (d .tally) (entry d p) (g .checks) (tally-right (d .journal) (d .tally) (g .tally)) e
+  enters-clear : Good d → Enters (d .inputs .journal) (entry d p) → Clear (appendOrder (d .inputs) (d .tally) (entry d p))
+  enters-clear g e = append-clear (d .inputs .journal) (d .inputs .table) (d .tally) (entry d p) (g .checks) (tally-right (d .inputs .journal) (d .tally) (g .tally)) e
 
-  module _ (c : Clear (appendOrder (d .journal) (d .table) (d .tally) (entry d p))) where
+  module _ (c : Clear (appendOrder (d .inputs) (d .tally) (entry d p))) where
     clear-accepted : accepts (posted d p .answer) ≡ true
     unfolding append
     clear-accepted = rw (clear-decide c)
 
-    next-journal : deskAfter d p .journal ≡ extended (d .journal) (entry d p)
+    next-journal : deskAfter d p .inputs .journal ≡ extended (d .inputs .journal) (entry d p)
     unfolding append
     next-journal = rw (clear-decide c)
 
-    next-table : deskAfter d p .table ≡ tableAfter (whole (d .journal)) (opOf (suc (count (d .journal))) (entry d p)) (d .table)
+    next-table : deskAfter d p .inputs .table ≡ tableAfter (whole (d .inputs .journal)) (opOf (suc (count (d .inputs .journal))) (entry d p)) (d .inputs .table)
     unfolding append
     next-table = rw (clear-decide c)
 
@@ -96,46 +97,46 @@ module _ (d : Desk) (p : Post) where
     next-tally = rw (clear-decide c)
 
 -- the before that post fills in is the table's
-entry-before : (d : Desk) (p : Post) → p .kind ≡ 2 → entry d p .before ≡ amountAt (d .table) (p .item)
+entry-before : (d : Desk) (p : Post) → p .kind ≡ 2 → entry d p .before ≡ amountAt (d .inputs .table) (p .item)
 entry-before d p e = rw e
 
 -- an accepted post
-module _ (d : Desk) (p : Post) (g : Good d) (c : Clear (appendOrder (d .journal) (d .table) (d .tally) (entry d p))) (f : Fitting (entry d p)) where
-  enters : Enters (d .journal) (entry d p)
-  enters = clear-appended (d .journal) (d .table) (d .tally) (entry d p) c .2
+module _ (d : Desk) (p : Post) (g : Good d) (c : Clear (appendOrder (d .inputs) (d .tally) (entry d p))) (f : Fitting (entry d p)) where
+  enters : Enters (d .inputs .journal) (entry d p)
+  enters = clear-appended (d .inputs .journal) (d .inputs .table) (d .tally) (entry d p) c .2
 
-  small : count (d .journal) < 3200
-  small = room (d .journal) (enters .room) .0
+  small : count (d .inputs .journal) < 3200
+  small = room (d .inputs .journal) (enters .room) .0
 
-  long : 20 * (count (d .journal) + 1) + 20 ≤ length (d .journal)
-  long = room (d .journal) (enters .room) .1
+  long : 20 * (count (d .inputs .journal) + 1) + 20 ≤ length (d .inputs .journal)
+  long = room (d .inputs .journal) (enters .room) .1
 
-  whole-next : whole (deskAfter d p .journal) ≡ opOf (suc (count (d .journal))) (entry d p) ∷ whole (d .journal)
-  whole-next = ap whole (next-journal d p c) ∙ whole-extended (d .journal) (entry d p) long small f
+  whole-next : whole (deskAfter d p .inputs .journal) ≡ opOf (suc (count (d .inputs .journal))) (entry d p) ∷ whole (d .inputs .journal)
+  whole-next = ap whole (next-journal d p c) ∙ whole-extended (d .inputs .journal) (entry d p) long small f
 
   pub good-next : Good (deskAfter d p)
   good-next =
       record {
-        bytes = rw (next-journal d p c) (extended-bytes (d .journal) (entry d p) long (g .bytes));
-        checks = rw (next-journal d p c, next-table d p c) (checks-extended (d .journal) (d .table) (entry d p) (g .checks) enters f refl (entry-before d p));
-        tally = next-tally d p c ∙ ap (raised (p .kind)) (g .tally) ∙ sym (ap tallied whole-next ∙ tallied-extended (items (d .journal)) _ (entry d p) (whole (d .journal)) (enters .formed));
+        bytes = rw (next-journal d p c) (extended-bytes (d .inputs .journal) (entry d p) long (g .bytes));
+        checks = rw (next-journal d p c, next-table d p c) (checks-extended (d .inputs .journal) (d .inputs .table) (entry d p) (g .checks) enters f refl (entry-before d p));
+        tally = next-tally d p c ∙ ap (raised (p .kind)) (g .tally) ∙ sym (ap tallied whole-next ∙ tallied-extended (items (d .inputs .journal)) _ (entry d p) (whole (d .inputs .journal)) (enters .formed));
       }
 
-  length-next : length (deskAfter d p .journal) ≡ length (d .journal)
-  length-next = ap length (next-journal d p c) ∙ length-extended (d .journal) (entry d p) long
+  length-next : length (deskAfter d p .inputs .journal) ≡ length (d .inputs .journal)
+  length-next = ap length (next-journal d p c) ∙ length-extended (d .inputs .journal) (entry d p) long
 
-  items-next : items (deskAfter d p .journal) ≡ items (d .journal)
-  items-next = ap items (next-journal d p c) ∙ items-extended (d .journal) (entry d p) long small f
+  items-next : items (deskAfter d p .inputs .journal) ≡ items (d .inputs .journal)
+  items-next = ap items (next-journal d p c) ∙ items-extended (d .inputs .journal) (entry d p) long small f
 
-  records-next : map (linkedTo 0) (records (deskAfter d p .journal) (count (deskAfter d p .journal))) ≡ entry d p ∷ map (linkedTo 0) (records (d .journal) (count (d .journal)))
-  records-next = ap (λ b. map (linkedTo 0) (records b (count b))) (next-journal d p c) ∙ records-extended (d .journal) (entry d p) long small f
+  records-next : map (linkedTo 0) (records (deskAfter d p .inputs .journal) (count (deskAfter d p .inputs .journal))) ≡ entry d p ∷ map (linkedTo 0) (records (d .inputs .journal) (count (d .inputs .journal)))
+  records-next = ap (λ b. map (linkedTo 0) (records b (count b))) (next-journal d p c) ∙ records-extended (d .inputs .journal) (entry d p) long small f
 
-  opening-next : openingTable (deskAfter d p .journal) (deskAfter d p .table) ≡ openingTable (d .journal) (d .table)
+  opening-next : openingTable (deskAfter d p .inputs) ≡ openingTable (d .inputs)
   opening-next =
-      rw (next-journal d p c, next-table d p c) (opening-extended (d .journal) (d .table) (entry d p) (g .checks) enters f refl (entry-before d p))
+      rw (next-journal d p c, next-table d p c) (opening-extended (d .inputs .journal) (d .inputs .table) (entry d p) (g .checks) enters f refl (entry-before d p))
 
-  fits-next : ((x : ℕ) → SFits w32 (amountAt (d .table) x)) → (x : ℕ) → SFits w32 (amountAt (deskAfter d p .table) x)
-  fits-next h x = rw (next-table d p c) (fits-tableAfter (d .journal) (d .table) (suc (count (d .journal))) (entry d p) (g .bytes) f h x)
+  fits-next : ((x : ℕ) → SFits w32 (amountAt (d .inputs .table) x)) → (x : ℕ) → SFits w32 (amountAt (deskAfter d p .inputs .table) x)
+  fits-next h x = rw (next-table d p c) (fits-tableAfter (d .inputs .journal) (d .inputs .table) (suc (count (d .inputs .journal))) (entry d p) (g .bytes) f h x)
 
 -- ---- a run of posts
 
@@ -144,7 +145,7 @@ amounts-fit none x = record { sfits = omega arith }
 amounts-fit (amount h k) zero = h
 amounts-fit (amount h k) (suc x) = amounts-fit k x
 
-entry-fits : (d : Desk) (p : Post) → ((x : ℕ) → SFits w32 (amountAt (d .table) x)) → Given p → Fitting (entry d p)
+entry-fits : (d : Desk) (p : Post) → ((x : ℕ) → SFits w32 (amountAt (d .inputs .table) x)) → Given p → Fitting (entry d p)
 entry-fits d p h g =
     record {
       kind = g .kind;
@@ -157,14 +158,14 @@ entry-fits d p h g =
     }
 
 record Kept (before : Desk) (d : Desk) (rs : List Record) : Type 0 where
-  entries : map (linkedTo 0) (records (d .journal) (count (d .journal))) ≡ rs
+  entries : map (linkedTo 0) (records (d .inputs .journal) (count (d .inputs .journal))) ≡ rs
   good : Good d
-  items : items (d .journal) ≡ items (before .journal)
-  opening : openingTable (d .journal) (d .table) ≡ openingTable (before .journal) (before .table)
-  room : length (d .journal) ≡ length (before .journal)
+  items : items (d .inputs .journal) ≡ items (before .inputs .journal)
+  opening : openingTable (d .inputs) ≡ openingTable (before .inputs)
+  room : length (d .inputs .journal) ≡ length (before .inputs .journal)
 
-run-kept : (d : Desk) {ps : List Post} (rs : List Record) → Good d → ((x : ℕ) → SFits w32 (amountAt (d .table) x)) → AllGiven ps
-    → map (linkedTo 0) (records (d .journal) (count (d .journal))) ≡ rs → Kept d (run d ps) (entered d ps rs)
+run-kept : (d : Desk) {ps : List Post} (rs : List Record) → Good d → ((x : ℕ) → SFits w32 (amountAt (d .inputs .table) x)) → AllGiven ps
+    → map (linkedTo 0) (records (d .inputs .journal) (count (d .inputs .journal))) ≡ rs → Kept d (run d ps) (entered d ps rs)
 unfolding run entered
 run-kept d rs g h none e = record { entries = e; good = g; items = refl; opening = refl; room = refl }
 run-kept d rs g h (given {p} {ps} w ws) e =
@@ -189,12 +190,12 @@ unfolding records
 records-opened b m a = rw (count-started b m (started-clear b m a))
 
 -- with no records the opening table is the table
-opening-opened : (b : List ℕ) (m : ℕ) (t : List Amount) → accepts (start b m .answer) ≡ true → openingTable (start b m .journal) t ≡ t
+opening-opened : (b : List ℕ) (m : ℕ) (t : List Amount) → accepts (start b m .answer) ≡ true → openingTable (lent (start b m .journal) t) ≡ t
 unfolding openingTable openingAt
 opening-opened b m t a =
     ap (λ j. tabulate (λ x. initial (amountAt t x) j x) 0 (length t)) (whole-started b m (started-clear b m a)) ∙ tabulate-getD t (pos 0)
 
-checks-chained : {b : List ℕ} {t : List Amount} → Checks b t → Chained b
+checks-chained : {b : List ℕ} {t : List Amount} → Checks (lent b t) → Chained b
 checks-chained k zero l h = absurd (omega arith)
 checks-chained {b} k (suc i) l h = chained-next b (suc i) (k .sound .right i h .chained)
 
@@ -232,24 +233,24 @@ accepted-one d p e = (e, tt)
 abbrev postOf : Record → Post
 postOf r = record { kind = r .kind; tx = txIn r; item = r .item .0; after = r .after }
 
-module _ (b : List ℕ) (t : List Amount) (z : List ℕ) (kb : Bytes b) (kz : Bytes z) (k : Checks b t) (space : 20 * (count b + 1) ≤ length z) where
+module _ (b : List ℕ) (t : List Amount) (z : List ℕ) (kb : Bytes b) (kz : Bytes z) (k : Checks (lent b t)) (space : 20 * (count b + 1) ≤ length z) where
   -- the desk after the posts of the first n records
   record At (n : ℕ) (d : Desk) : Type 0 where
     good : Good d
-    entries : map (linkedTo 0) (records (d .journal) (count (d .journal))) ≡ map (linkedTo 0) (records b n)
-    items : items (d .journal) ≡ items b
-    room : length (d .journal) ≡ length z
-    table : (x : ℕ) → x < length t → amountAt (d .table) x ≡ current (openingAt b t x) (history b n) x
+    entries : map (linkedTo 0) (records (d .inputs .journal) (count (d .inputs .journal))) ≡ map (linkedTo 0) (records b n)
+    items : items (d .inputs .journal) ≡ items b
+    room : length (d .inputs .journal) ≡ length z
+    table : (x : ℕ) → x < length t → amountAt (d .inputs .table) x ≡ current (openingAt (lent b t) x) (history b n) x
 
   module _ (n : ℕ) (h : n < count b) (d : Desk) (w : At n d) where
     abbrev r : Record
     r = recordAt b (suc n)
 
-    count-at : count (d .journal) ≡ n
-    count-at = count-linked (d .journal) b n (w .entries)
+    count-at : count (d .inputs .journal) ≡ n
+    count-at = count-linked (d .inputs .journal) b n (w .entries)
 
-    whole-at : whole (d .journal) ≡ history b n
-    whole-at = whole-linked (d .journal) b n (w .entries)
+    whole-at : whole (d .inputs .journal) ≡ history b n
+    whole-at = whole-linked (d .inputs .journal) b n (w .entries)
 
     -- the record that the post adds: a write's before is what the table has come to
     entry-is : entry d (postOf r) ≡ linkedTo 0 r
@@ -264,17 +265,15 @@ module _ (b : List ℕ) (t : List Amount) (z : List ℕ) (kb : Bytes b) (kz : By
         (λ e v. rw e (sym v)))
         refl
 
-    at-enters : Enters (d .journal) (entry d (postOf r))
+    at-enters : Enters (d .inputs .journal) (entry d (postOf r))
     at-enters =
         let g = k .sound .right n h in
         let s = count-bound b (k .sound .head) in
         rw entry-is
         (record {
           formed = rw (w .items) (malformed-linkedTo (items b) 0 r ∙ g .formed);
-          unclosed = rw (whole-at, count-at, opOf-linkedTo (suc n) 0 r) (g .unclosed);
-          uncrossed = rw (whole-at, count-at, opOf-linkedTo (suc n) 0 r) (g .uncrossed);
-          sighted = rw (whole-at, count-at, opOf-linkedTo (suc n) 0 r) (g .sighted);
-          room = room-for (d .journal) (omega (arith, count-at)) (omega (arith, count-at, w .room));
+          follows = rw (whole-at, count-at, opOf-linkedTo (suc n) 0 r) (g .follows);
+          room = room-for (d .inputs .journal) (omega (arith, count-at)) (omega (arith, count-at, w .room));
         })
 
     at-fits : Fitting (entry d (postOf r))
@@ -283,14 +282,14 @@ module _ (b : List ℕ) (t : List Amount) (z : List ℕ) (kb : Bytes b) (kz : By
         rw entry-is
         (record { kind = f .kind; reserved = f .reserved; transaction = f .transaction; next = omega arith; item = f .item; before = f .before; after = f .after })
 
-    at-clear : Clear (appendOrder (d .journal) (d .table) (d .tally) (entry d (postOf r)))
+    at-clear : Clear (appendOrder (d .inputs) (d .tally) (entry d (postOf r)))
     at-clear = enters-clear d (postOf r) (w .good) at-enters
 
-    at-table : (x : ℕ) → x < length t → amountAt (deskAfter d (postOf r) .table) x ≡ current (openingAt b t x) (history b (suc n)) x
+    at-table : (x : ℕ) → x < length t → amountAt (deskAfter d (postOf r) .inputs .table) x ≡ current (openingAt (lent b t) x) (history b (suc n)) x
     at-table x l =
-        let o : Op = opOf (suc (count (d .journal))) (entry d (postOf r)) in
-        let m : length (d .table) ≡ length t = table-length (d .journal) (d .table) (w .good .checks .table) ∙ w .items ∙ sym (table-length b t (k .table)) in
-        ap (λ v. amountAt v x) (next-table d (postOf r) at-clear) ∙ amount-tableAfter (whole (d .journal)) o (d .table) x (omega arith)
+        let o : Op = opOf (suc (count (d .inputs .journal))) (entry d (postOf r)) in
+        let m : length (d .inputs .table) ≡ length t = table-length (d .inputs .journal) (d .inputs .table) (w .good .checks .table) ∙ w .items ∙ sym (table-length b t (k .table)) in
+        ap (λ v. amountAt v x) (next-table d (postOf r) at-clear) ∙ amount-tableAfter (whole (d .inputs .journal)) o (d .inputs .table) x (omega arith)
         ∙ rw (entry-is, whole-at, count-at, opOf-linkedTo (suc n) 0 r, w .table x l, history-suc b n)
 
     at-next : At (suc n) (deskAfter d (postOf r))
@@ -305,7 +304,7 @@ module _ (b : List ℕ) (t : List Amount) (z : List ℕ) (kb : Bytes b) (kz : By
         }
 
   abbrev desk : Desk
-  desk = opened z (items b) (openingTable b t)
+  desk = opened z (items b) (openingTable (lent b t))
 
   started : Clear (startOrder z (items b))
   unfolding short badItems items
@@ -319,7 +318,7 @@ module _ (b : List ℕ) (t : List Amount) (z : List ℕ) (kb : Bytes b) (kz : By
   at-opened : At 0 desk
   at-opened =
       record {
-        good = good-opened z (items b) (openingTable b t) kz start-accepts (length-openingTable b t ∙ table-length b t (k .table));
+        good = good-opened z (items b) (openingTable (lent b t)) kz start-accepts (length-openingTable b t ∙ table-length b t (k .table));
         entries = records-opened z (items b) start-accepts ∙ sym (ap (map (linkedTo 0)) (records-zero b));
         items = items-started z (items b) started;
         room = length-started z (items b) started;
@@ -337,16 +336,18 @@ module _ (b : List ℕ) (t : List Amount) (z : List ℕ) (kb : Bytes b) (kz : By
         accepted-append desk (postsOf b n) (p ∷ []) a (accepted-one d p (clear-accepted d p (at-clear n h d w))),
       )
 
-  table-back : (d : Desk) → At (count b) d → d .table ≡ t
+  table-back : (d : Desk) → At (count b) d → d .inputs .table ≡ t
   unfolding openingAt whole
   table-back d w =
       let m : length t ≡ items b = table-length b t (k .table) in
-      let n : length (d .table) ≡ length t = table-length (d .journal) (d .table) (w .good .checks .table) ∙ w .items ∙ sym m in
-      ext-getD (pos 0) (d .table) t n
+      let n : length (d .inputs .table) ≡ length t = table-length (d .inputs .journal) (d .inputs .table) (w .good .checks .table) ∙ w .items ∙ sym m in
+      ext-getD (pos 0) (d .inputs .table) t n
       (λ x h. w .table x (omega arith) ∙ settled-current (amountAt t x) (history b (count b)) x (settled-amount b t x (k .settled x (omega arith))))
 
 pub rebuilding : Rebuilding
-rebuilding b t z kb kz e space =
+rebuilding v z kb kz e space =
+    let b = v .journal in
+    let t = v .table in
     let k = pass-checks b t e in
     let (w, a) = at-run b t z kb kz k space (count b) (omega arith) in
     record {

@@ -8,11 +8,11 @@ use Prim.Native.Nat.{ℕ, suc, _+_, _≤_}
 use lib.Dec.{eqb}
 use lib.ListN.{length, getD}
 use Rattle.lists.specs.Search.{any, keep, member}
-use Rattle.model.specs.History.{Amount}
+use Rattle.journal.specs.Inputs.{Inputs, lent}
 use Rattle.journal.specs.Copy.{copy}
 use Rattle.journal.specs.Calls.{Answer, refused, accepted, Counts, Undone, undo}
 use Rattle.demands.specs.Days.{accepts, Day}
-use Rattle.demands.specs.Undoing.{Accepting, copyIn, takenBack}
+use Rattle.demands.specs.Undoing.{Accepting, copyIn, leftBy, takenBack}
 
 -- what a call of the sequence brings
 pub record Call : Type 0 where
@@ -28,12 +28,11 @@ pub record Done : Type 0 where
 
 -- what the next call gets, and the accepted calls until now, newest first
 pub record Course : Type 0 where
-  pub journal : List ℕ
-  pub table : List Amount
+  pub inputs : Inputs
   pub calls : List Done
 
-abbrev pub begin : List ℕ → List Amount → Course
-begin b t = record { journal = b; table = t; calls = [] }
+abbrev pub begin : Inputs → Course
+begin d = record { inputs = d; calls = [] }
 
 -- the call marked the sale 2
 abbrev pub took : ℕ → Done → Bool
@@ -45,12 +44,12 @@ struck ds bad = keep (λ s. not (any (took s) ds)) bad
 
 -- the call on what the last accepted one left
 abbrev pub called : Course → Call → Undone
-called c k = undo (c .journal) (c .table) (struck (c .calls) (k .bad)) (k .status) (k .out)
+called c k = undo (c .inputs) (struck (c .calls) (k .bad)) (k .status) (k .out)
 
 -- an accepted call hands on its copy, exactly its bytes, and its table; a refused one what it got
 abbrev pub handed : Course → Call → Undone → Answer Counts → Course
-handed c k r (refused n p) = record { journal = c .journal; table = r .table; calls = c .calls }
-handed c k r (accepted n) = record { journal = copyIn r n; table = r .table; calls = record { given = k .bad; status = r .status; counts = n } ∷ c .calls }
+handed c k r (refused n p) = record { inputs = lent (c .inputs .journal) (r .table); calls = c .calls }
+handed c k r (accepted n) = record { inputs = leftBy r n; calls = record { given = k .bad; status = r .status; counts = n } ∷ c .calls }
 
 unfoldable pub run : Course → List Call → Course
 run c [] = c
@@ -87,22 +86,22 @@ pub record Same (c : Course) (d : Done) (r : Undone) (n : Counts) : Type 0 where
   pub answer : r .answer ≡ accepted n
   -- sales marked 2 by the accepted calls are those that the one call marks 2, each by just one of them
   pub marks : (s : ℕ) → times s (c .calls) ≡ cond (takenBack r s) 1 0
-  pub table : c .table ≡ r .table
-  pub copy : c .journal ≡ copyIn r n
+  pub table : c .inputs .table ≡ r .table
+  pub copy : c .inputs .journal ≡ copyIn r n
   pub surviving : d .counts .surviving ≡ n .surviving
   pub undone : total (λ k. k .undone) (c .calls) ≡ n .undone
   pub aborted : total (λ k. k .aborted) (c .calls) ≡ n .aborted
 
 -- what holds after any sequence of calls
-pub record Cut (b : List ℕ) (t : List Amount) (c : Course) : Type 0 where
+pub record Cut (d : Inputs) (c : Course) : Type 0 where
   -- the next call, whatever it brings, is accepted exactly as demand 3 says: so is each call of a sequence, since those before it are one
-  pub acceptance : (k : Call) → (accepts (called c k .answer) ≡ true) ↔ Accepting (c .journal) (struck (c .calls) (k .bad)) (k .status) (k .out)
+  pub acceptance : (k : Call) → (accepts (called c k .answer) ≡ true) ↔ Accepting (c .inputs .journal) (struck (c .calls) (k .bad)) (k .status) (k .out)
   -- none accepted: journal and table unchanged
-  pub unchanged : c .calls ≡ [] → (c .journal ≡ b) × (c .table ≡ t)
+  pub unchanged : c .calls ≡ [] → c .inputs ≡ d
   -- otherwise it is the one call with the accepted lists joined, marks of 1,025 bytes and paper that holds the copy
-  pub one : (d : Done) (ds : List Done) → c .calls ≡ d ∷ ds → (m status out : List ℕ) → Joins m (c .calls) → length status ≡ 1025
-      → length (copy m b) ≤ length out → (n : Counts) × Same c d (undo b t m status out) n
+  pub one : (k : Done) (ks : List Done) → c .calls ≡ k ∷ ks → (m status out : List ℕ) → Joins m (c .calls) → length status ≡ 1025
+      → length (copy m (d .journal)) ≤ length out → (n : Counts) × Same c k (undo d m status out) n
 
 -- The cut list, for any sequence of calls, accepted and refused, from a journal and table that pass with every sale finished.
 abbrev pub CutList : Type 0
-CutList = (b : List ℕ) (t : List Amount) (calls : List Call) → Day b t → Cut b t (run (begin b t) calls)
+CutList = (d : Inputs) (calls : List Call) → Day d → Cut d (run (begin d) calls)

@@ -9,6 +9,7 @@ use mir.Val.{SFits}
 use Rattle.lists.specs.Search.{any}
 use Rattle.format.specs.Bytes.{Bytes}
 use Rattle.model.specs.History.{Amount, ofTx, ended}
+use Rattle.journal.specs.Inputs.{Inputs}
 use Rattle.journal.specs.Journal.{whole}
 use Rattle.journal.specs.Calls.{Answer, refused, accepted, check}
 
@@ -23,15 +24,15 @@ pub data Amounts : List Amount → Type 0 where
   amount : {a : Amount} {t : List Amount} → SFits w32 a → Amounts t → Amounts (a ∷ t)
 
 -- 01: a journal and table pass where check refuses nothing
-abbrev pub Pass : List ℕ → List Amount → Type 0
-Pass b t = accepts (check b t) ≡ true
+abbrev pub Pass : Inputs → Type 0
+Pass d = accepts (check d) ≡ true
 
 -- every sale with a record has an end
 abbrev pub Finished : List ℕ → Type 0
 Finished b = (s : ℕ) → any (ofTx s) (whole b) ≡ true → ended (whole b) s ≡ true
 
 -- a journal of bytes, with its table, that pass with every sale finished
-pub record Day (b : List ℕ) (t : List Amount) : Type 0 where
-  pub bytes : Bytes b
-  pub pass : Pass b t
-  pub finished : Finished b
+pub record Day (d : Inputs) : Type 0 where
+  pub bytes : Bytes (d .journal)
+  pub pass : Pass d
+  pub finished : Finished (d .journal)

@@ -11,6 +11,7 @@ use Rattle.format.specs.declared.Record.{Record}
 use Rattle.format.specs.Bytes.{Bytes}
 use Rattle.format.specs.Layout.{recordAt}
 use Rattle.model.specs.History.{Amount, nextIn}
+use Rattle.journal.specs.Inputs.{Inputs, lent}
 use Rattle.journal.specs.Journal.{count, items, txIn, records, whole}
 use Rattle.journal.specs.Refusals.{Tally, tallied}
 use Rattle.journal.specs.Copy.{linkedTo}
@@ -36,16 +37,15 @@ pub data AllGiven : List Post → Type 0 where
 
 -- what post works on
 pub record Desk : Type 0 where
-  pub journal : List ℕ
-  pub table : List Amount
+  pub inputs : Inputs
   pub tally : Tally
 
 abbrev pub posted : Desk → Post → Appended
-posted d p = append (d .journal) (d .table) (d .tally) (p .kind) (p .tx) (p .item) (p .after)
+posted d p = append (d .inputs) (d .tally) (p .kind) (p .tx) (p .item) (p .after)
 
 -- the desk after one post, accepted or refused
 abbrev pub deskAfter : Desk → Post → Desk
-deskAfter d p = record { journal = posted d p .journal; table = posted d p .table; tally = posted d p .tally }
+deskAfter d p = record { inputs = lent (posted d p .journal) (posted d p .table); tally = posted d p .tally }
 
 -- the desk after a run of posts
 unfoldable pub run : Desk → List Post → Desk
@@ -57,7 +57,7 @@ run d (p ∷ ps) = run (deskAfter d p) ps
 unfoldable pub entered : Desk → List Post → List Record → List Record
 entered d [] rs = rs
 entered d (p ∷ ps) rs =
-    entered (deskAfter d p) ps (cond (accepts (posted d p .answer)) (newRecord (d .table) (p .kind) (p .tx) (p .item) (p .after) ∷ rs) rs)
+    entered (deskAfter d p) ps (cond (accepts (posted d p .answer)) (newRecord (d .inputs .table) (p .kind) (p .tx) (p .item) (p .after) ∷ rs) rs)
 
 -- each post of a run is accepted
 unfoldable pub AllAccepted : Desk → List Post → Type 0
@@ -66,7 +66,7 @@ AllAccepted d (p ∷ ps) = (accepts (posted d p .answer) ≡ true) × AllAccepte
 
 -- a started journal, with a table and no records counted
 abbrev pub opened : List ℕ → ℕ → List Amount → Desk
-opened b m t = record { journal = start b m .journal; table = t; tally = record { reads = 0; writes = 0; commits = 0; aborts = 0 } }
+opened b m t = record { inputs = lent (start b m .journal) t; tally = record { reads = 0; writes = 0; commits = 0; aborts = 0 } }
 
 -- next is right at each record
 abbrev pub Chained : List ℕ → Type 0
@@ -74,13 +74,13 @@ Chained b = (i : ℕ) → 1 ≤ i → i ≤ count b → recordAt b i .next .0 �
 
 -- what holds of a desk after a run of posts, refused ones included
 pub record Booked (before : Desk) (ps : List Post) (d : Desk) : Type 0 where
-  pub entries : map (linkedTo 0) (records (d .journal) (count (d .journal))) ≡ entered before ps []
-  pub chained : Chained (d .journal)
-  pub pass : Pass (d .journal) (d .table)
-  pub tally : d .tally ≡ tallied (whole (d .journal))
-  pub items : items (d .journal) ≡ items (before .journal)
-  pub opening : openingTable (d .journal) (d .table) ≡ before .table
-  pub room : length (d .journal) ≡ length (before .journal)
+  pub entries : map (linkedTo 0) (records (d .inputs .journal) (count (d .inputs .journal))) ≡ entered before ps []
+  pub chained : Chained (d .inputs .journal)
+  pub pass : Pass (d .inputs)
+  pub tally : d .tally ≡ tallied (whole (d .inputs .journal))
+  pub items : items (d .inputs .journal) ≡ items (before .inputs .journal)
+  pub opening : openingTable (d .inputs) ≡ before .inputs .table
+  pub room : length (d .inputs .journal) ≡ length (before .inputs .journal)
 
 -- What posting builds, reading accepts: for any run of posts from start, with any room, any table of item-count amounts and tally 0.
 -- It holds after each post of a run, since what comes before is a run too.
@@ -95,14 +95,21 @@ postsOf b (suc n) =
     let r : Record = recordAt b (suc n) in
     postsOf b n ++ record { kind = r .kind; tx = txIn r; item = r .item .0; after = r .after } ∷ []
 
--- the desk that holds a journal's first bytes and its table, from a started journal with room z and the opening table
-pub record Rebuilt (b : List ℕ) (t : List Amount) (z : List ℕ) : Type 0 where
-  pub started : accepts (start z (items b) .answer) ≡ true
-  pub accepted : AllAccepted (opened z (items b) (openingTable b t)) (postsOf b (count b))
-  pub journal : take (20 * (count b + 1)) (run (opened z (items b) (openingTable b t)) (postsOf b (count b)) .journal) ≡ take (20 * (count b + 1)) b
-  pub table : run (opened z (items b) (openingTable b t)) (postsOf b (count b)) .table ≡ t
+-- a started journal with room z and the opening table, and the desk after posting the journal's records on it
+abbrev pub anew : Inputs → List ℕ → Desk
+anew d z = opened z (items (d .journal)) (openingTable d)
+
+abbrev pub rebuilt : Inputs → List ℕ → Desk
+rebuilt d z = run (anew d z) (postsOf (d .journal) (count (d .journal)))
+
+-- it holds the journal's first bytes and its table
+pub record Rebuilt (d : Inputs) (z : List ℕ) : Type 0 where
+  pub started : accepts (start z (items (d .journal)) .answer) ≡ true
+  pub accepted : AllAccepted (anew d z) (postsOf (d .journal) (count (d .journal)))
+  pub journal : take (20 * (count (d .journal) + 1)) (rebuilt d z .inputs .journal) ≡ take (20 * (count (d .journal) + 1)) (d .journal)
+  pub table : rebuilt d z .inputs .table ≡ d .table
 
 -- Every journal and table that pass, open sales included, are what start and then posting their records in order from the opening
 -- table build, byte for byte over the journal's length, each post accepted.
 abbrev pub Rebuilding : Type 0
-Rebuilding = (b : List ℕ) (t : List Amount) (z : List ℕ) → Bytes b → Bytes z → Pass b t → 20 * (count b + 1) ≤ length z → Rebuilt b t z
+Rebuilding = (d : Inputs) (z : List ℕ) → Bytes (d .journal) → Bytes z → Pass d → 20 * (count (d .journal) + 1) ≤ length z → Rebuilt d z

@@ -1,7 +1,7 @@
 -- Amounts compared by their bits, the layout of the head and of a record, test by test.
 -- Assumes nothing.
 use mathlib.Core.Path.{_≡_, refl, sym, _∙_, ap}
-use mathlib.Core.Bool.{Bool, false≢true, true, false, cond, not, _&&_}
+use mathlib.Core.Bool.{Bool, false≢true, true, false, cond, not, _&&_, and-assoc}
 use mathlib.Core.List.{List}
 use mathlib.Core.Option.{none, some}
 use Prim.Native.Nat.{ℕ, _+_, _*_, _<_, _≤_}
@@ -19,14 +19,13 @@ use Rattle.format.specs.Layout.{recordAt}
 use Rattle.format.proofs.BytesLaws.{amount-bits}
 use Rattle.format.specs.Bytes.{amount}
 use Rattle.model.specs.History.{Amount, sameAmount}
-use Rattle.model.proofs.Opening.{same-refl, same-eq}
+use Rattle.model.proofs.Amounts.{same-refl, same-eq}
 use Rattle.journal.specs.Journal.{txIn, count, items}
 use Rattle.journal.specs.Refusals.{within, headRight, bodyRight, malformed, short, torn, badHead}
 use Rattle.journal.specs.Orders.{decide, openOrder}
 use Rattle.journal.specs.Calls.{Answer, refused, accepted, answered}
-use Rattle.journal.proofs.OrdersLaws.{decide-append}
+use Rattle.journal.proofs.OrdersLaws.{orElse-none, decide-try, decide-turn, decide-over}
 use Rattle.fields.specs.Answers.{Size}
-use Rattle.fields.proofs.OrderLaws.{decide-try}
 
 pub same-bits : (a b : Amount) → SFits w32 a → SFits w32 b → eqb (ofZ w32 a) (ofZ w32 b) ≡ sameAmount a b
 same-bits a b f g =
@@ -54,30 +53,21 @@ module _ (n : ℕ) (r : Record) where
   formed-high z l h = rw (z, le-leb 1 (txIn r) l, lt-leb (txIn r) 1024 h)
 
   module _ (z : r .reserved ≡ 0) (l : 1 ≤ txIn r) (u : txIn r ≤ 1024) where
-    pub formed-body : (h : Bool) → h ≡ bodyRight n r → h ≡ not (malformed n r)
+    formed-body : (h : Bool) → h ≡ bodyRight n r → h ≡ not (malformed n r)
     unfolding malformed
     formed-body h e = e ∙ rw (z, le-leb 1 (txIn r) l, le-leb (txIn r) 1024 u) (not-not (bodyRight n r))
 
-    pub formed-read : (h : Bool) → r .kind ≡ 1 → r .item .0 < n → h ≡ sameAmount (r .before) (pos 0) && sameAmount (r .after) (pos 0) → h ≡ not (malformed n r)
-    formed-read h k i e = formed-body h (e ∙ rw (k, lt-ltb (r .item .0) n i))
-
-    pub formed-read-item : r .kind ≡ 1 → n ≤ r .item .0 → false ≡ not (malformed n r)
-    formed-read-item k i = formed-body false (rw (k, le-ltb (r .item .0) n i))
+    pub formed-read : (h a : Bool) → r .kind ≡ 1 → a ≡ sameAmount (r .before) (pos 0) && sameAmount (r .after) (pos 0) → h ≡ ltb (r .item .0) n && a → h ≡ not (malformed n r)
+    formed-read h a k e g = formed-body h (g ∙ rw (k, e) (sym (and-assoc (ltb (r .item .0) n) _ _)))
 
     pub formed-write : r .kind ≡ 2 → ltb (r .item .0) n ≡ not (malformed n r)
     formed-write k = formed-body _ (rw k)
 
-    pub formed-commit : (h : Bool) → r .kind ≡ 3 → r .item .0 ≡ 0 → h ≡ sameAmount (r .before) (pos 0) && sameAmount (r .after) (pos 0) → h ≡ not (malformed n r)
-    formed-commit h k i e = formed-body h (e ∙ rw (k, i))
+    pub formed-commit : (h a : Bool) → r .kind ≡ 3 → a ≡ sameAmount (r .before) (pos 0) && sameAmount (r .after) (pos 0) → h ≡ eqb (r .item .0) 0 && a → h ≡ not (malformed n r)
+    formed-commit h a k e g = formed-body h (g ∙ rw (k, e) (sym (and-assoc (eqb (r .item .0) 0) _ _)))
 
-    pub formed-commit-item : r .kind ≡ 3 → (r .item .0 ≡ 0 → ⊥) → false ≡ not (malformed n r)
-    formed-commit-item k i = formed-body false (rw (k, ne-eqb (r .item .0) 0 i))
-
-    pub formed-abort : (h : Bool) → r .kind ≡ 4 → r .item .0 ≡ 0 → h ≡ sameAmount (r .before) (pos 0) && sameAmount (r .after) (pos 0) → h ≡ not (malformed n r)
-    formed-abort h k i e = formed-body h (e ∙ rw (k, i))
-
-    pub formed-abort-item : r .kind ≡ 4 → (r .item .0 ≡ 0 → ⊥) → false ≡ not (malformed n r)
-    formed-abort-item k i = formed-body false (rw (k, ne-eqb (r .item .0) 0 i))
+    pub formed-abort : (h a : Bool) → r .kind ≡ 4 → a ≡ sameAmount (r .before) (pos 0) && sameAmount (r .after) (pos 0) → h ≡ eqb (r .item .0) 0 && a → h ≡ not (malformed n r)
+    formed-abort h a k e g = formed-body h (g ∙ rw (k, e) (sym (and-assoc (eqb (r .item .0) 0) _ _)))
 
     pub formed-kind : (r .kind ≡ 1 → ⊥) → (r .kind ≡ 2 → ⊥) → (r .kind ≡ 3 → ⊥) → (r .kind ≡ 4 → ⊥) → false ≡ not (malformed n r)
     formed-kind a b c d =
@@ -151,25 +141,26 @@ module _ (r : Record) where
 -- ---- 1 and 2
 
 module _ {A : Type 0} (b : List ℕ) (a : A) where
-  open-parts : decide (openOrder b) ≡ orElse (orElse (cond (short b) (some (record { number = 1; place = 0 })) none) (cond (badHead b) (some (record { number = 2; place = 0 })) none)) (cond (torn b) (some (record { number = 1; place = 0 })) none)
+  open-parts : decide (openOrder b)
+      ≡ orElse (cond (short b) (some (record { number = 1; place = 0 })) none) (orElse (cond (badHead b) (some (record { number = 2; place = 0 })) none) (cond (torn b) (some (record { number = 1; place = 0 })) none))
   unfolding openOrder
-  open-parts = simp (decide-append, decide-try)
+  open-parts = simp (decide-turn, decide-over, decide-try, orElse-none)
 
   pub open-short : length b < 20 → refused 1 0 ≡ answered (decide (openOrder b)) a
   unfolding short
   open-short h = rw (open-parts, lt-ltb (length b) 20 h)
 
   module _ (l : 20 ≤ length b) where
-    pub open-head : headRight (recordAt b 0) ≡ false → refused 2 0 ≡ answered (decide (openOrder b)) a
+    open-head : headRight (recordAt b 0) ≡ false → refused 2 0 ≡ answered (decide (openOrder b)) a
     unfolding short badHead
     open-head h = rw (open-parts, le-ltb (length b) 20 l, h)
 
     module _ (h : headRight (recordAt b 0) ≡ true) where
-      pub open-torn : length b < 20 * (count b + 1) → refused 1 0 ≡ answered (decide (openOrder b)) a
+      open-torn : length b < 20 * (count b + 1) → refused 1 0 ≡ answered (decide (openOrder b)) a
       unfolding short badHead torn
       open-torn t = rw (open-parts, le-ltb (length b) 20 l, h, lt-ltb (length b) (20 * (count b + 1)) t)
 
-      pub open-right : 20 * (count b + 1) ≤ length b → accepted a ≡ answered (decide (openOrder b)) a
+      open-right : 20 * (count b + 1) ≤ length b → accepted a ≡ answered (decide (openOrder b)) a
       unfolding short badHead torn
       open-right t = rw (open-parts, le-ltb (length b) 20 l, h, le-ltb (length b) (20 * (count b + 1)) t)
 
@@ -181,7 +172,7 @@ module _ {A : Type 0} (b : List ℕ) (a : A) where
   pub read-head : (r : Record) (h : Bool) → 20 ≤ length b → r ≡ recordAt b 0 → h ≡ headRight r → h ≡ false → refused 2 0 ≡ answered (decide (openOrder b)) a
   read-head r h l e f g = open-head l (rw (← e) (sym f ∙ g))
 
-  pub read-right : (r : Record) (h : Bool) → 20 ≤ length b → r ≡ recordAt b 0 → h ≡ headRight r → h ≡ true → 20 * (r .next .0 + 1) ≤ length b → accepted a ≡ answered (decide (openOrder b)) a
+  read-right : (r : Record) (h : Bool) → 20 ≤ length b → r ≡ recordAt b 0 → h ≡ headRight r → h ≡ true → 20 * (r .next .0 + 1) ≤ length b → accepted a ≡ answered (decide (openOrder b)) a
   unfolding count
   read-right r h l e f g t = open-right l (rw (← e) (sym f ∙ g)) (rw e at t)
 

@@ -1,3 +1,2 @@
-pub mod OrderLaws
 pub mod Fields
 pub mod HeadLaws

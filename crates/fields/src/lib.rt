@@ -24,6 +24,13 @@ pub fn same(a: i32, b: i32) -> bool
     a == b
 }
 
+// Both hold.
+fn both(a: bool, b: bool) -> bool
+    ensures { λ h. ⌜ h ≡ a && b ⌝ }
+{
+    if a { b } else { false }
+}
+
 // Before and after are 0.
 fn no_amounts(r: Record) -> bool
     ensures { λ h. ⌜ h ≡ sameAmount (r .before) (pos 0) && sameAmount (r .after) (pos 0) ⌝ }
@@ -94,18 +101,14 @@ pub fn formed(items: u32, r: Record) -> bool
     if 1024 < r.transaction.0 {
         return false;
     }
+    let within = r.item.0 < items;
+    let bare = no_amounts(r);
     let kind = r.kind;
     match kind {
-        1 => {
-            if r.item.0 < items {
-                no_amounts(r)
-            } else {
-                false
-            }
-        }
-        2 => r.item.0 < items,
-        3 => { if r.item.0 == 0 { no_amounts(r) } else { false } }
-        4 => { if r.item.0 == 0 { no_amounts(r) } else { false } }
+        1 => both(within, bare),
+        2 => within,
+        3 => both(r.item.0 == 0, bare),
+        4 => both(r.item.0 == 0, bare),
         _ => false,
     }
 }

@@ -47,7 +47,7 @@ pub fn value4(s: &[u8], at: usize) -> u32
 }
 
 // Writes a number in two bytes from `at`.
-pub fn put2(out: &mut [u8], at: usize, x: u16)
+fn put2(out: &mut [u8], at: usize, x: u16)
     requires { ⌜ at + 2 ≤ length (now out) ⌝ }
     ensures { λ _. ⌜ now (out .exit) ≡ store at (bytes 2 x) (now (out .entry)) ⌝ }
 {
@@ -125,13 +125,6 @@ pub fn next_at(journal: &[u8], i: usize) -> u32
     ensures { λ r. ⌜ r ≡ recordAt (now (journal .entry)) i .next .0 ⌝ }
 {
     value4(journal, 20 * i + 4)
-}
-
-pub fn item_at(journal: &[u8], i: usize) -> u32
-    requires { ⌜ 20 * i + 20 ≤ length (now journal) ⌝ }
-    ensures { λ r. ⌜ r ≡ recordAt (now (journal .entry)) i .item .0 ⌝ }
-{
-    value4(journal, 20 * i + 8)
 }
 
 // Writes the 20 bytes of a record.

@@ -14,7 +14,7 @@ use Rattle.journal.specs.Refusals.{short, badItems}
 use Rattle.journal.specs.Orders.{Refusal, try, decide, startOrder}
 use Rattle.journal.specs.Copy.{headWith}
 use Rattle.journal.specs.Calls.{refused, accepted, start}
-use Rattle.journal.proofs.OrdersLaws.{decide-yes, decide-no, decide-append-none, decide-append-some}
+use Rattle.journal.proofs.OrdersLaws.{decide-yes, decide-no, decide-one, decide-turn-none, decide-turn-some}
 
 refuses : (b : List ℕ) (n : ℕ) {r : Refusal} → decide (startOrder b n) ≡ some r → (refused (r .number) (r .place) ≡ start b n .answer) × (b ≡ start b n .journal)
 unfolding start
@@ -22,11 +22,11 @@ refuses b n e = (rw e, rw e)
 
 pub truncated : (b : List ℕ) (n : ℕ) → length b < 20 → (refused 1 0 ≡ start b n .answer) × (b ≡ start b n .journal)
 unfolding startOrder short
-truncated b n h = refuses b n (decide-append-some _ _ (decide-yes 1 0 (lt-ltb (length b) 20 h)))
+truncated b n h = refuses b n (decide-turn-some _ _ (decide-yes 1 0 (lt-ltb (length b) 20 h)))
 
 past-short : (b : List ℕ) (n : ℕ) → 20 ≤ length b → decide (startOrder b n) ≡ decide (try 2 0 (badItems n))
 unfolding startOrder short
-past-short b n h = decide-append-none _ _ (decide-no 1 0 (le-ltb (length b) 20 h))
+past-short b n h = decide-turn-none _ _ (decide-no 1 0 (le-ltb (length b) 20 h)) ∙ decide-one (try 2 0 (badItems n))
 
 pub no-items : (b : List ℕ) (n : ℕ) → 20 ≤ length b → n < 1 → (refused 2 0 ≡ start b n .answer) × (b ≡ start b n .journal)
 unfolding badItems

@@ -2,7 +2,7 @@
 -- Assumes nothing.
 use mathlib.Core.Path.{_≡_, refl, sym, _∙_, ap}
 use mathlib.Core.Bool.{true, false, cond}
-use mathlib.Core.List.{List, [], _∷_, _++_, map}
+use mathlib.Core.List.{List, [], _∷_, map}
 use Prim.Native.Nat.{ℕ, zero, suc, _+_, _*_, _<_, _≤_}
 use native.Mathlib.Omega.{arith}
 use lib.Dec.{eqb, ltb, leb}
@@ -22,14 +22,15 @@ use Rattle.format.proofs.BytesLaws.{Bytes-store, length-bytes, bytes-bytes}
 use Rattle.format.proofs.LayoutLaws.{recordAt-fitting, length-bytesOf, bytesOf-bytes}
 use Rattle.model.specs.History.{Op, History, Amount, Tag, tagOf, beforeOf, afterOf, tagIn, ofTx, applied, nextIn, writeTo, initial}
 use Rattle.model.proofs.Extension.{latest-tag, next-last, next-extended, settled-extended, matched-extended, Befores, applied-all, initial-extended}
+use Rattle.journal.specs.Inputs.{lent}
 use Rattle.journal.specs.Journal.{count, items, txIn, opOf, records, history, whole, amountAt}
 use Rattle.journal.specs.Copy.{headWith, linkedTo}
-use Rattle.journal.specs.Refusals.{Tally, tallied, within, short, torn, badItems, malformed, closed, crossed, blind, mismatched, noRoom, wrongTally}
-use Rattle.journal.specs.Orders.{Order, try, checkOrder, startOrder, appendOrder}
+use Rattle.journal.specs.Refusals.{Tally, tallied, within, short, torn, badItems, malformed, mismatched, noRoom, wrongTally}
+use Rattle.journal.specs.Orders.{tallyOrder, newOrder, startOrder, appendOrder}
 use Rattle.journal.specs.Calls.{link, extended, accepted, tableAfter, raised, start, openingAt, openingTable}
-use Rattle.journal.proofs.Clear.{Clear, clear-append, clear-left, clear-right, clear-try, try-clear, clear-decide}
+use Rattle.journal.proofs.Clear.{Clear, clear-turns, turns-clear, clear-try, try-clear, clear-decide}
 use Rattle.journal.proofs.Encoded.{headWith-fitting}
-use Rattle.journal.proofs.Checked.{RecordRight, Sound, Checks, checks-clear, clear-checks}
+use Rattle.journal.proofs.Checked.{new-all, Follows, RecordRight, Sound, Checks, follows-clear, clear-follows, checks-clear, clear-checks}
 use Rattle.journal.proofs.Records.{by-kind, txOf-opOf, tagOf-opOf, opOf-linkedTo, length-history, history-zero, history-suc}
 use Rattle.journal.proofs.Stored.{stored-fits, recordAt-stored, recordAt-stored-other, linked-fits, recordAt-linked, recordAt-linked-other, length-link, link-bytes, link-behind, recordAt-link, recordAt-link-head}
 use Rattle.journal.proofs.Unrefused.{room, Headed, head-headed, headed-head, table-length, length-table, formed-cases, malformed-linkedTo, opOf-read, opOf-write, opOf-commit, opOf-abort, chained-next, next-chained, settled-amount, amount-settled, history-numbered, record-upto}
@@ -38,16 +39,20 @@ use Rattle.journal.proofs.Unrefused.{room, Headed, head-headed, headed-
 
 pub start-clear : (b : List ℕ) (m : ℕ) → short b ≡ false → badItems m ≡ false → Clear (startOrder b m)
 unfolding startOrder
-start-clear b m e f = clear-append (clear-try 1 0 _ e) (clear-try 2 0 _ f)
+start-clear b m e f = clear-turns _ (clear-try 1 0 _ e, (clear-try 2 0 _ f, tt))
+
+pub clear-start : (b : List ℕ) (m : ℕ) → Clear (startOrder b m) → (short b ≡ false) × (badItems m ≡ false)
+unfolding startOrder
+clear-start b m k = let (c1, (c2, end)) = turns-clear _ k in (try-clear 1 _ _ c1, try-clear 2 _ _ c2)
 
 module _ (b : List ℕ) (m : ℕ) (c : Clear (startOrder b m)) where
   started-long : 20 ≤ length b
-  unfolding startOrder short
-  started-long = ltb-false (length b) 20 (try-clear 1 0 _ (clear-left (try 1 0 (short b)) (try 2 0 (badItems m)) c))
+  unfolding short
+  started-long = ltb-false (length b) 20 (clear-start b m c .0)
 
   started-items : within 1 1024 m ≡ true
-  unfolding startOrder badItems
-  started-items = not-neither _ (try-clear 2 0 _ (clear-right (try 1 0 (short b)) (try 2 0 (badItems m)) c))
+  unfolding badItems
+  started-items = not-neither _ (clear-start b m c .1)
 
   started-is : start b m .journal ≡ store (20 * 0) (bytesOf (headWith 0 m)) b
   unfolding start
@@ -80,7 +85,7 @@ module _ (b : List ℕ) (m : ℕ) (c : Clear (startOrder b m)) where
   unfolding whole
   whole-started = ap (history (start b m .journal)) count-started ∙ history-zero (start b m .journal)
 
-  pub checks-started : (t : List Amount) → length t ≡ m → Checks (start b m .journal) t
+  pub checks-started : (t : List Amount) → length t ≡ m → Checks (lent (start b m .journal) t)
   unfolding short torn
   checks-started t e =
       let j : List ℕ = start b m .journal in
@@ -222,46 +227,27 @@ module _ (b : List ℕ) (r : Record) (long : 20 * (count b + 1) + 20 ≤ length 
 -- no refusal of 4, 6, 7, 8 and 14 for a new record
 pub record Enters (b : List ℕ) (r : Record) : Type 0 where
   pub formed : malformed (items b) r ≡ false
-  pub unclosed : closed (whole b) (opOf (suc (count b)) r) ≡ false
-  pub uncrossed : crossed (whole b) (opOf (suc (count b)) r) ≡ false
-  pub sighted : blind (whole b) (opOf (suc (count b)) r) ≡ false
+  pub follows : Follows (whole b) (opOf (suc (count b)) r)
   pub room : noRoom b ≡ false
 
-pub append-clear : (b : List ℕ) (t : List Amount) (c : Tally) (r : Record) → Checks b t → wrongTally b c ≡ false → Enters b r → Clear (appendOrder b t c r)
-unfolding appendOrder
-append-clear b t c r k w e =
-    clear-append
-    (clear-append (clear-append (clear-append (clear-append (clear-append (checks-clear b t k) (clear-try 15 0 _ w)) (clear-try 4 _ _ (e .formed))) (clear-try 6 _ _ (e .unclosed)))
-    (clear-try 7 _ _ (e .uncrossed))) (clear-try 8 _ _ (e .sighted)))
-    (clear-try 14 0 _ (e .room))
+enters-clear : (b : List ℕ) (r : Record) → Enters b r → Clear (newOrder b r)
+enters-clear b r e = new-all _ b r (e .formed) (follows-clear _ _ _ (e .follows)) (e .room)
 
-pub clear-appended : (b : List ℕ) (t : List Amount) (c : Tally) (r : Record) → Clear (appendOrder b t c r) → Checks b t × (wrongTally b c ≡ false) × Enters b r
-unfolding appendOrder
+clear-enters : (b : List ℕ) (r : Record) → Clear (newOrder b r) → Enters b r
+unfolding newOrder
+clear-enters b r k =
+    let (c4, (access, (c14, end))) = turns-clear _ k in
+    record { formed = try-clear 4 _ _ c4; follows = clear-follows _ _ _ access; room = try-clear 14 _ _ c14 }
+
+pub append-clear : (b : List ℕ) (t : List Amount) (c : Tally) (r : Record) → Checks (lent b t) → wrongTally b c ≡ false → Enters b r → Clear (appendOrder (lent b t) c r)
+unfolding appendOrder tallyOrder
+append-clear b t c r k w e = clear-turns _ (checks-clear b t k, (clear-try 15 _ _ w, (enters-clear b r e, tt)))
+
+pub clear-appended : (b : List ℕ) (t : List Amount) (c : Tally) (r : Record) → Clear (appendOrder (lent b t) c r) → Checks (lent b t) × (wrongTally b c ≡ false) × Enters b r
+unfolding appendOrder tallyOrder
 clear-appended b t c r k =
-    let i : ℕ = suc (count b) in
-    let o : Op = opOf i r in
-    let o0 : Order = checkOrder b t in
-    let o15 : Order = try 15 0 (wrongTally b c) in
-    let o4 : Order = try 4 i (malformed (items b) r) in
-    let o6 : Order = try 6 i (closed (whole b) o) in
-    let o7 : Order = try 7 i (crossed (whole b) o) in
-    let o8 : Order = try 8 i (blind (whole b) o) in
-    let o14 : Order = try 14 0 (noRoom b) in
-    let k8 = clear-left (o0 ++ o15 ++ o4 ++ o6 ++ o7 ++ o8) o14 k in
-    let k7 = clear-left (o0 ++ o15 ++ o4 ++ o6 ++ o7) o8 k8 in
-    let k6 = clear-left (o0 ++ o15 ++ o4 ++ o6) o7 k7 in
-    let k4 = clear-left (o0 ++ o15 ++ o4) o6 k6 in
-    let k15 = clear-left (o0 ++ o15) o4 k4 in (
-      clear-checks b t (clear-left o0 o15 k15),
-      try-clear 15 0 _ (clear-right o0 o15 k15),
-      record {
-        formed = try-clear 4 _ _ (clear-right (o0 ++ o15) o4 k4);
-        unclosed = try-clear 6 _ _ (clear-right (o0 ++ o15 ++ o4) o6 k6);
-        uncrossed = try-clear 7 _ _ (clear-right (o0 ++ o15 ++ o4 ++ o6) o7 k7);
-        sighted = try-clear 8 _ _ (clear-right (o0 ++ o15 ++ o4 ++ o6 ++ o7) o8 k8);
-        room = try-clear 14 0 _ (clear-right (o0 ++ o15 ++ o4 ++ o6 ++ o7 ++ o8) o14 k);
-      },
-    )
+    let (check, (c15, (new, end))) = turns-clear _ k in
+    (clear-checks b t check, try-clear 15 _ _ c15, clear-enters b r new)
 
 -- ---- the tally and the tables
 
@@ -284,17 +270,17 @@ unfolding tableAfter
 amount-tableAfter p o t x h =
     getD-tabulate (λ x. applied o p x (amountAt t x)) 0 (length t) x (pos 0) h ∙ ap (λ x. applied o p x (amountAt t x)) (omega arith)
 
-pub length-openingTable : (b : List ℕ) (t : List Amount) → length (openingTable b t) ≡ length t
+pub length-openingTable : (b : List ℕ) (t : List Amount) → length (openingTable (lent b t)) ≡ length t
 unfolding openingTable
-length-openingTable b t = length-tabulate (openingAt b t) 0 (length t)
+length-openingTable b t = length-tabulate (openingAt (lent b t)) 0 (length t)
 
-pub amount-openingTable : (b : List ℕ) (t : List Amount) (x : ℕ) → x < length t → amountAt (openingTable b t) x ≡ openingAt b t x
+pub amount-openingTable : (b : List ℕ) (t : List Amount) (x : ℕ) → x < length t → amountAt (openingTable (lent b t)) x ≡ openingAt (lent b t) x
 unfolding openingTable
-amount-openingTable b t x h = getD-tabulate (openingAt b t) 0 (length t) x (pos 0) h ∙ ap (openingAt b t) (omega arith)
+amount-openingTable b t x h = getD-tabulate (openingAt (lent b t)) 0 (length t) x (pos 0) h ∙ ap (openingAt (lent b t)) (omega arith)
 
 -- ---- the journal with one record more passes
 
-module _ (b : List ℕ) (t : List Amount) (r : Record) (k : Checks b t) (e : Enters b r) (fit : Fitting r) (last : r .next .0 ≡ 0)
+module _ (b : List ℕ) (t : List Amount) (r : Record) (k : Checks (lent b t)) (e : Enters b r) (fit : Fitting r) (last : r .next .0 ≡ 0)
     (before : r .kind ≡ 2 → r .before ≡ amountAt t (r .item .0)) where
   small : count b < 3200
   small = room b (e .room) .0
@@ -335,9 +321,7 @@ module _ (b : List ℕ) (t : List Amount) (r : Record) (k : Checks b t) (e : Ent
       record {
         formed = rw (items-extended b r long small fit) (same-record b r long small fit (malformed (items b)) (malformed-linkedTo (items b) (suc (count b))) i h ∙ w .formed);
         chained = next-chained (extended b r) (suc i) (next-old i h);
-        unclosed = rw (o, p) (w .unclosed);
-        uncrossed = rw (o, p) (w .uncrossed);
-        sighted = rw (o, p) (w .sighted);
+        follows = rw (o, p) (w .follows);
         matched = rw (o, p) (w .matched);
       }
 
@@ -358,9 +342,7 @@ module _ (b : List ℕ) (t : List Amount) (r : Record) (k : Checks b t) (e : Ent
       record {
         formed = rw (n, items-extended b r long small fit) (e .formed);
         chained = next-chained (extended b r) (suc (count b)) next-new;
-        unclosed = rw (n, p) (e .unclosed);
-        uncrossed = rw (n, p) (e .uncrossed);
-        sighted = rw (n, p) (e .sighted);
+        follows = rw (n, p) (e .follows);
         matched = rw (n, p) matched-new;
       }
 
@@ -385,7 +367,7 @@ module _ (b : List ℕ) (t : List Amount) (r : Record) (k : Checks b t) (e : Ent
             (λ q. let d = eqb-false i (count b) q in right-old i (omega arith));
       }
 
-  pub checks-extended : Checks (extended b r) (tableAfter (whole b) (opOf (suc (count b)) r) t)
+  pub checks-extended : Checks (lent (extended b r) (tableAfter (whole b) (opOf (suc (count b)) r) t))
   checks-extended =
       let p : History = whole b in
       let o : Op = opOf (suc (count b)) r in
@@ -409,7 +391,7 @@ module _ (b : List ℕ) (t : List Amount) (r : Record) (k : Checks b t) (e : Ent
       (λ a z. rw (opOf-abort (suc (count b)) r a) (λ h. clash h refl))
 
   -- the opening table stays
-  pub opening-extended : openingTable (extended b r) (tableAfter (whole b) (opOf (suc (count b)) r) t) ≡ openingTable b t
+  pub opening-extended : openingTable (lent (extended b r) (tableAfter (whole b) (opOf (suc (count b)) r) t)) ≡ openingTable (lent b t)
   unfolding openingTable openingAt
   opening-extended =
       let p : History = whole b in

@@ -1,25 +1,59 @@
--- What check's order says where nothing in it holds: the head, each record and each item, one by one.
+-- What holds of each condition of a stage, from its conditions; and what check's order says where nothing in it holds: the head, each
+-- record and each item, one by one.
 -- Assumes nothing.
 use mathlib.Core.Path.{_≡_}
 use mathlib.Core.Bool.{false}
-use mathlib.Core.List.{List, _++_}
-use Prim.Native.Nat.{ℕ, zero, suc, _+_, _<_, _≤_}
+use mathlib.Core.List.{List}
+use mathlib.Core.Option.{none}
+use Prim.Native.Nat.{ℕ, zero, suc, pred, _+_, _<_, _≤_}
 use native.Mathlib.Omega.{arith}
-use Rattle.lists.specs.Tables.{each}
+use Rattle.format.specs.declared.Record.{Record}
 use Rattle.format.specs.Layout.{recordAt}
-use Rattle.model.specs.History.{History, Amount}
-use Rattle.journal.specs.Journal.{count, items, opOf, history}
-use Rattle.journal.specs.Refusals.{short, torn, badHead, wrongTable, malformed, unchained, closed, crossed, blind, mismatched, unsettled}
-use Rattle.journal.specs.Orders.{Order, try, openOrder, recordOrder, recordsOrder, tableOrder, settledOrder, checkOrder}
-use Rattle.journal.proofs.Clear.{Clear, clear-append, clear-left, clear-right, clear-try, try-clear, clear-each, each-clear}
+use Rattle.model.specs.History.{Op, History, Amount}
+use Rattle.journal.specs.Inputs.{Inputs, lent}
+use Rattle.journal.specs.Journal.{count, items, opOf, history, whole}
+use Rattle.journal.specs.Refusals.{short, torn, badHead, wrongTable, malformed, unchained, closed, crossed, blind, mismatched, unsettled, noRoom}
+use Rattle.journal.specs.Orders.{Trial, trial, openOrder, tableOrder, accessOrder, ruleOrder, recordOrder, recordsOrder, settledOrder, newOrder, soundOrder, checkOrder, decide}
+use Rattle.journal.proofs.Clear.{All, all-turns, all-try, Clear, clear-turns, turns-clear, clear-try, try-clear, clear-each, each-clear, clear-tried, tried-clear, decide-clear}
+
+-- ---- each condition of a stage
+
+module _ (P : Trial → Type 0) where
+  pub open-all : (b : List ℕ) → P (trial 1 0 (short b)) → P (trial 2 0 (badHead b)) → P (trial 1 0 (torn b)) → All P (openOrder b)
+  unfolding openOrder
+  open-all b c1 c2 whole = all-turns P _ (all-try P 1 0 _ c1, (all-try P 2 0 _ c2, (all-try P 1 0 _ whole, tt)))
+
+  pub access-all : (p : History) (i : ℕ) (o : Op) → P (trial 6 i (closed p o)) → P (trial 7 i (crossed p o)) → P (trial 8 i (blind p o)) → All P (accessOrder p i o)
+  unfolding accessOrder
+  access-all p i o c6 c7 c8 = all-turns P _ (all-try P 6 i _ c6, (all-try P 7 i _ c7, (all-try P 8 i _ c8, tt)))
+
+  pub rule-all : (p : History) (i : ℕ) (o : Op) → All P (accessOrder p i o) → P (trial 9 i (mismatched p o)) → All P (ruleOrder p i o)
+  unfolding ruleOrder
+  rule-all p i o access c9 = all-turns P _ (access, (all-try P 9 i _ c9, tt))
+
+  pub record-all : (b : List ℕ) (i : ℕ) → P (trial 4 i (malformed (items b) (recordAt b i))) → P (trial 5 i (unchained b i))
+      → All P (ruleOrder (history b (pred i)) i (opOf i (recordAt b i))) → All P (recordOrder b i)
+  unfolding recordOrder
+  record-all b i c4 c5 rules = all-turns P _ (all-try P 4 i _ c4, (all-try P 5 i _ c5, (rules, tt)))
+
+  pub new-all : (b : List ℕ) (r : Record) → P (trial 4 (suc (count b)) (malformed (items b) r)) → All P (accessOrder (whole b) (suc (count b)) (opOf (suc (count b)) r))
+      → P (trial 14 0 (noRoom b)) → All P (newOrder b r)
+  unfolding newOrder
+  new-all b r c4 access c14 = all-turns P _ (all-try P 4 _ _ c4, (access, (all-try P 14 0 _ c14, tt)))
+
+-- ---- nothing holds
+
+-- no refusal of 6 to 8 for the operation o after the history p
+pub record Follows (p : History) (o : Op) : Type 0 where
+  pub unclosed : closed p o ≡ false
+  pub uncrossed : crossed p o ≡ false
+  pub sighted : blind p o ≡ false
 
 -- no refusal of 4 to 9 at record i, after the history p
 pub record RecordRight (b : List ℕ) (i : ℕ) (p : History) : Type 0 where
   pub formed : malformed (items b) (recordAt b i) ≡ false
   pub chained : unchained b i ≡ false
-  pub unclosed : closed p (opOf i (recordAt b i)) ≡ false
-  pub uncrossed : crossed p (opOf i (recordAt b i)) ≡ false
-  pub sighted : blind p (opOf i (recordAt b i)) ≡ false
+  pub follows : Follows p (opOf i (recordAt b i))
   pub matched : mismatched p (opOf i (recordAt b i)) ≡ false
 
 -- no refusal of 1, 2 and 4 to 9
@@ -30,43 +64,31 @@ pub record Sound (b : List ℕ) : Type 0 where
   pub right : (i : ℕ) → i < count b → RecordRight b (suc i) (history b i)
 
 -- no refusal of check
-pub record Checks (b : List ℕ) (t : List Amount) : Type 0 where
-  pub sound : Sound b
-  pub table : wrongTable b t ≡ false
-  pub settled : (x : ℕ) → x < items b → unsettled b t x ≡ false
+pub record Checks (d : Inputs) : Type 0 where
+  pub sound : Sound (d .journal)
+  pub table : wrongTable (d .journal) (d .table) ≡ false
+  pub settled : (x : ℕ) → x < items (d .journal) → unsettled (d .journal) (d .table) x ≡ false
+
+-- ---- 6 to 8, and the record
+
+pub follows-clear : (p : History) (i : ℕ) (o : Op) → Follows p o → Clear (accessOrder p i o)
+follows-clear p i o f = access-all _ p i o (f .unclosed) (f .uncrossed) (f .sighted)
+
+pub clear-follows : (p : History) (i : ℕ) (o : Op) → Clear (accessOrder p i o) → Follows p o
+unfolding accessOrder
+clear-follows p i o k =
+    let (c6, (c7, (c8, end))) = turns-clear _ k in
+    record { unclosed = try-clear 6 _ _ c6; uncrossed = try-clear 7 _ _ c7; sighted = try-clear 8 _ _ c8 }
 
 pub record-clear : (b : List ℕ) (i : ℕ) → RecordRight b (suc i) (history b i) → Clear (recordOrder b (suc i))
-unfolding recordOrder
-record-clear b i r =
-    clear-append
-    (clear-append (clear-append (clear-append (clear-append (clear-try 4 _ _ (r .formed)) (clear-try 5 _ _ (r .chained))) (clear-try 6 _ _ (r .unclosed))) (clear-try 7 _ _ (r .uncrossed))) (clear-try 8 _ _ (r .sighted)))
-    (clear-try 9 _ _ (r .matched))
+record-clear b i r = record-all _ b (suc i) (r .formed) (r .chained) (rule-all _ _ _ _ (follows-clear _ _ _ (r .follows)) (r .matched))
 
 pub clear-record : (b : List ℕ) (i : ℕ) → Clear (recordOrder b (suc i)) → RecordRight b (suc i) (history b i)
-unfolding recordOrder
-clear-record b i c =
-    let o4 : Order = try 4 (suc i) (malformed (items b) (recordAt b (suc i))) in
-    let o5 : Order = try 5 (suc i) (unchained b (suc i)) in
-    let o6 : Order = try 6 (suc i) (closed (history b i) (opOf (suc i) (recordAt b (suc i)))) in
-    let o7 : Order = try 7 (suc i) (crossed (history b i) (opOf (suc i) (recordAt b (suc i)))) in
-    let o8 : Order = try 8 (suc i) (blind (history b i) (opOf (suc i) (recordAt b (suc i)))) in
-    let o9 : Order = try 9 (suc i) (mismatched (history b i) (opOf (suc i) (recordAt b (suc i)))) in
-    let c8 = clear-left (o4 ++ o5 ++ o6 ++ o7 ++ o8) o9 c in
-    let c7 = clear-left (o4 ++ o5 ++ o6 ++ o7) o8 c8 in
-    let c6 = clear-left (o4 ++ o5 ++ o6) o7 c7 in
-    let c5 = clear-left (o4 ++ o5) o6 c6 in
-    record {
-      formed = try-clear 4 _ _ (clear-left o4 o5 c5);
-      chained = try-clear 5 _ _ (clear-right o4 o5 c5);
-      unclosed = try-clear 6 _ _ (clear-right (o4 ++ o5) o6 c6);
-      uncrossed = try-clear 7 _ _ (clear-right (o4 ++ o5 ++ o6) o7 c7);
-      sighted = try-clear 8 _ _ (clear-right (o4 ++ o5 ++ o6 ++ o7) o8 c8);
-      matched = try-clear 9 _ _ (clear-right (o4 ++ o5 ++ o6 ++ o7 ++ o8) o9 c);
-    }
-
-pub open-clear : (b : List ℕ) → short b ≡ false → badHead b ≡ false → torn b ≡ false → Clear (openOrder b)
-unfolding openOrder
-open-clear b l h w = clear-append (clear-append (clear-try 1 0 _ l) (clear-try 2 0 _ h)) (clear-try 1 0 _ w)
+unfolding recordOrder ruleOrder
+clear-record b i k =
+    let (c4, (c5, (rules, end))) = turns-clear _ k in
+    let (access, (c9, last)) = turns-clear _ rules in
+    record { formed = try-clear 4 _ _ c4; chained = try-clear 5 _ _ c5; follows = clear-follows _ _ _ access; matched = try-clear 9 _ _ c9 }
 
 pub records-clear : (b : List ℕ) → ((i : ℕ) → i < count b → RecordRight b (suc i) (history b i)) → Clear (recordsOrder b)
 unfolding recordsOrder
@@ -76,35 +98,46 @@ records-clear b h = clear-each (recordOrder b) 1 (count b) (λ k l m. at k l m)
     at zero l m = absurd (omega arith)
     at (suc k) l m = record-clear b k (h k (omega arith))
 
+-- ---- check
+
+pub open-clear : (b : List ℕ) → short b ≡ false → badHead b ≡ false → torn b ≡ false → Clear (openOrder b)
+open-clear b l h w = open-all _ b l h w
+
+pub clear-opens : (b : List ℕ) → Clear (openOrder b) → (short b ≡ false) × (badHead b ≡ false) × (torn b ≡ false)
+unfolding openOrder
+clear-opens b k = let (c1, (c2, (whole, end))) = turns-clear _ k in (try-clear 1 _ _ c1, try-clear 2 _ _ c2, try-clear 1 _ _ whole)
+
 pub clear-sound : (b : List ℕ) → Clear (openOrder b) → Clear (recordsOrder b) → Sound b
-unfolding openOrder recordsOrder
+unfolding recordsOrder
 clear-sound b c d =
-    let e = clear-left (try 1 0 (short b) ++ try 2 0 (badHead b)) (try 1 0 (torn b)) c in
+    let (l, h, w) = clear-opens b c in
     record {
-      long = try-clear 1 0 _ (clear-left (try 1 0 (short b)) (try 2 0 (badHead b)) e);
-      head = try-clear 2 0 _ (clear-right (try 1 0 (short b)) (try 2 0 (badHead b)) e);
-      full = try-clear 1 0 _ (clear-right (try 1 0 (short b) ++ try 2 0 (badHead b)) (try 1 0 (torn b)) c);
+      long = l;
+      head = h;
+      full = w;
       right = λ i h. clear-record b i (each-clear (recordOrder b) 1 (count b) d (suc i) (omega arith) (omega arith));
     }
 
-pub checks-clear : (b : List ℕ) (t : List Amount) → Checks b t → Clear (checkOrder b t)
+pub decide-sound : (b : List ℕ) → decide (soundOrder b) ≡ none → Sound b
+unfolding soundOrder
+decide-sound b e = let (opens, (records, end)) = turns-clear _ (decide-clear _ e) in clear-sound b opens records
+
+pub checks-clear : (b : List ℕ) (t : List Amount) → Checks (lent b t) → Clear (checkOrder (lent b t))
 unfolding checkOrder tableOrder settledOrder
 checks-clear b t k =
-    clear-append
-    (clear-append (clear-append (open-clear b (k .sound .long) (k .sound .head) (k .sound .full)) (clear-try 3 0 _ (k .table))) (records-clear b (k .sound .right)))
-    (clear-each (λ x. try 10 x (unsettled b t x)) 0 (items b) (λ x l m. clear-try 10 x _ (k .settled x (omega arith))))
+    clear-turns _ (
+      open-clear b (k .sound .long) (k .sound .head) (k .sound .full),
+      (
+        clear-try 3 _ _ (k .table),
+        (
+          records-clear b (k .sound .right),
+          (clear-tried 10 _ _ _ (λ x l m. k .settled x (omega arith)), tt),
+        ),
+      ),
+    )
 
-pub clear-checks : (b : List ℕ) (t : List Amount) → Clear (checkOrder b t) → Checks b t
+pub clear-checks : (b : List ℕ) (t : List Amount) → Clear (checkOrder (lent b t)) → Checks (lent b t)
 unfolding checkOrder tableOrder settledOrder
-clear-checks b t c =
-    let o1 = openOrder b in
-    let o2 = try 3 0 (wrongTable b t) in
-    let o3 = recordsOrder b in
-    let o4 = each (λ x. try 10 x (unsettled b t x)) 0 (items b) in
-    let c3 = clear-left (o1 ++ o2 ++ o3) o4 c in
-    let c2 = clear-left (o1 ++ o2) o3 c3 in
-    record {
-      sound = clear-sound b (clear-left o1 o2 c2) (clear-right (o1 ++ o2) o3 c3);
-      table = try-clear 3 0 _ (clear-right o1 o2 c2);
-      settled = λ x h. try-clear 10 x _ (each-clear (λ x. try 10 x (unsettled b t x)) 0 (items b) (clear-right (o1 ++ o2 ++ o3) o4 c) x (omega arith) (omega arith));
-    }
+clear-checks b t k =
+    let (opens, (c3, (records, (c10, end)))) = turns-clear _ k in
+    record { sound = clear-sound b opens records; table = try-clear 3 _ _ c3; settled = λ x h. tried-clear 10 _ _ _ c10 x (omega arith) (omega arith) }

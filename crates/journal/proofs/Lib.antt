@@ -1,7 +1,11 @@
 pub mod OrdersLaws
+pub mod Opened
 pub mod Clear
+pub mod Deciding
+pub mod Answered
 pub mod Records
 pub mod Encoded
+pub mod ResultsLaws
 pub mod Checked
 pub mod Stored
 pub mod Unrefused

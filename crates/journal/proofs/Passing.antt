@@ -12,15 +12,21 @@ use Rattle.format.specs.declared.Record.{Record}
 use Rattle.format.specs.Layout.{recordAt}
 use Rattle.model.specs.History.{Op, History}
 use Rattle.model.specs.Undo.{Upto, all, more}
+use Rattle.model.proofs.Legal.{Sighted}
+use Rattle.model.proofs.Repair.{sighted-ends}
 use Rattle.model.proofs.Opening.{Passes, Passing, step}
 use Rattle.journal.specs.Journal.{count, items, txIn, whole}
 use Rattle.journal.specs.Refusals.{short, torn, badHead, malformed, unchained, closed, crossed, blind, mismatched}
 use Rattle.journal.proofs.Checked.{Sound}
-use Rattle.journal.proofs.Unrefused.{head-headed, formed, record-upto, sound-passing}
+use Rattle.journal.proofs.Unrefused.{head-headed, formed, record-upto, sound-passing, sound-sighted}
 
 pub passing-whole : (b : List ℕ) → Sound b → Passing (whole b)
 unfolding whole
 passing-whole b s = sound-passing s (count b) (omega arith)
+
+pub sighted-whole : (b : List ℕ) → Sound b → Sighted (whole b)
+unfolding whole
+sighted-whole b s = sound-sighted s (count b) (omega arith)
 
 passing-upto : {r : Op} {p j : History} → Passing j → Upto (r ∷ p) j → Passes p r
 passing-upto (step k l) all = l
@@ -29,16 +35,16 @@ passing-upto (step k l) (more i) = passing-upto k i
 -- what each record needs beside the rules
 pub sound-from : (b : List ℕ) → short b ≡ false → badHead b ≡ false → torn b ≡ false
     → ((i : ℕ) → i < count b → malformed (items b) (recordAt b (suc i)) ≡ false) → ((i : ℕ) → i < count b → unchained b (suc i) ≡ false)
-    → Passing (whole b) → Sound b
+    → Passing (whole b) → Sighted (whole b) → Sound b
 unfolding closed crossed blind mismatched whole
-sound-from b l h w m u k =
+sound-from b l h w m u k g =
     record {
       long = l;
       head = h;
       full = w;
       right = λ i n.
           let p = passing-upto k (record-upto b i (count b) n) in
-          record { formed = m i n; chained = u i n; unclosed = p .closed; uncrossed = p .uncrossed; sighted = p .sighted; matched = p .matched };
+          record { formed = m i n; chained = u i n; follows = record { unclosed = p .closed; uncrossed = p .uncrossed; sighted = sighted-ends g (record-upto b i (count b) n) .1 }; matched = p .matched };
     }
 
 -- ---- the head

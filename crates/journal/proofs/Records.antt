@@ -16,7 +16,7 @@ use Rattle.model.specs.History.{Op, History, Tag, read, write, commit, abort, o
 use Rattle.model.specs.Undo.{Upto, all, more, only, retag, renumber}
 use Rattle.model.proofs.Renumber.{length-renumber}
 use Rattle.journal.specs.Journal.{txIn, opOf, records, history}
-use Rattle.journal.specs.Copy.{linkedTo, copied}
+use Rattle.journal.specs.Copy.{linkedTo, Rule, unchanged, copiedBy, copied}
 
 -- ---- one record
 
@@ -129,10 +129,43 @@ records-each P b (suc n) h = and {r = recordAt b (suc n)} {rs = records b n} (rw
 
 -- ---- the copied records
 
+module _ (φ : Rule) (k : ℕ → Bool) (h : History) where
+  -- they are no more than there were
+  pub length-copiedBy : (rs : List Record) → length (copiedBy φ k h rs) ≤ length rs
+  unfolding copiedBy
+  length-copiedBy [] = omega arith
+  length-copiedBy (r ∷ rs) = let ih = length-copiedBy rs in byCases (k (txIn r)) (λ e. rw e (omega arith)) (λ e. rw e (omega arith))
+
+  -- one record more, of a transaction of k
+  pub copiedBy-yes : (r : Record) (rs : List Record) → k (txIn r) ≡ true
+      → copiedBy φ k h (r ∷ rs) ≡ linkedTo (nextIn h (suc (length (copiedBy φ k h rs))) (txIn r)) (φ (copiedBy φ k h rs) r) ∷ copiedBy φ k h rs
+  unfolding copiedBy
+  copiedBy-yes r rs e = rw e
+
+  pub copiedBy-suffix : {p l : List Record} → Suffix p l → Suffix (copiedBy φ k h p) (copiedBy φ k h l)
+  unfolding copiedBy
+  copiedBy-suffix same = same
+  copiedBy-suffix (behind {a = r} i) = byCases (k (txIn r)) (λ e. rw e (behind (copiedBy-suffix i))) (λ e. rw e (copiedBy-suffix i))
+
+  -- each has the next that the history gives it, where the rule leaves it with its transaction
+  pub copiedBy-linked : ((q : List Record) (r : Record) → txIn (φ q r) ≡ txIn r) → (rs : List Record) → Each (λ i r. r .next .0 ≡ nextIn h i (txIn r)) (copiedBy φ k h rs)
+  unfolding copiedBy
+  copiedBy-linked t [] = done
+  copiedBy-linked t (r ∷ rs) =
+      byCases (k (txIn r)) (λ e. rw e (and (ap (nextIn h _) (sym (t _ r))) (copiedBy-linked t rs))) (λ e. rw e (copiedBy-linked t rs))
+
+  -- what holds of each record, and by the rule whatever its next, holds of each
+  pub copiedBy-each : (P : Record → Type 0) → ((m : ℕ) (q : List Record) (r : Record) → P r → P (linkedTo m (φ q r))) → {rs : List Record} → Each (λ i r. P r) rs → Each (λ i r. P r) (copiedBy φ k h rs)
+  unfolding copiedBy
+  copiedBy-each P f done = done
+  copiedBy-each P f (and {r} {rs} p e) =
+      let ih = copiedBy-each P f e in
+      byCases (k (txIn r)) (λ e. rw e (and (f _ _ _ p) ih)) (λ e. rw e ih)
+
 module _ (k : ℕ → Bool) (h : History) where
-  -- they make the selection of the history, renumbered
+  -- unchanged but for next, they make the selection of the history, renumbered
   pub opsOf-copied : (rs : List Record) → opsOf (copied k h rs) ≡ renumber (only k (opsOf rs))
-  unfolding copied opsOf
+  unfolding copiedBy opsOf
   opsOf-copied [] = refl
   opsOf-copied (r ∷ rs) =
       let ih = opsOf-copied rs in
@@ -144,29 +177,15 @@ module _ (k : ℕ → Bool) (h : History) where
       (ap (λ o. o ∷ renumber (only k (opsOf rs))) (opOf-linkedTo (suc n) (nextIn h (suc n) (txIn r)) r))))
       (λ e. rw e ih))
 
-  -- each has the next that the history gives it
   pub copied-linked : (rs : List Record) → Each (λ i r. r .next .0 ≡ nextIn h i (txIn r)) (copied k h rs)
-  unfolding copied
-  copied-linked [] = done
-  copied-linked (r ∷ rs) = byCases (k (txIn r)) (λ e. rw e (and refl (copied-linked rs))) (λ e. rw e (copied-linked rs))
+  copied-linked = copiedBy-linked unchanged k h (λ q r. refl)
 
-  -- and what holds of each record, whatever its number and next, holds of each
   pub copied-each : (P : Record → Type 0) → ((m : ℕ) (r : Record) → P r → P (linkedTo m r)) → {rs : List Record} → Each (λ i r. P r) rs → Each (λ i r. P r) (copied k h rs)
-  unfolding copied
-  copied-each P f done = done
-  copied-each P f (and {r} {rs} p e) =
-      let ih = copied-each P f e in
-      byCases (k (txIn r)) (λ e. rw e (and (f _ _ p) ih)) (λ e. rw e ih)
-
-  -- they are no more than there were
-  pub length-copied : (rs : List Record) → length (copied k h rs) ≤ length rs
-  unfolding copied
-  length-copied [] = omega arith
-  length-copied (r ∷ rs) = let ih = length-copied rs in byCases (k (txIn r)) (λ e. rw e (omega arith)) (λ e. rw e (omega arith))
+  copied-each P f = copiedBy-each unchanged k h P (λ m q. f m)
 
 -- records selected twice are selected once
 pub copied-copied : (k k' : ℕ → Bool) (h h' : History) → ((s : ℕ) → k' s ≡ true → k s ≡ true) → (rs : List Record) → copied k' h' (copied k h rs) ≡ copied k' h' rs
-unfolding copied
+unfolding copiedBy
 copied-copied k k' h h' f [] = refl
 copied-copied k k' h h' f (r ∷ rs) =
     let ih = copied-copied k k' h h' f rs in
@@ -191,14 +210,3 @@ records-suffix b m (suc n) h =
     byCases (eqb m (suc n))
     (λ e. rw (eqb-true m (suc n) e) same)
     (λ e. let d = eqb-false m (suc n) e in behind (records-suffix b m n (omega arith)))
-
-pub copied-suffix : (k : ℕ → Bool) (h : History) {p l : List Record} → Suffix p l → Suffix (copied k h p) (copied k h l)
-unfolding copied
-copied-suffix k h same = same
-copied-suffix k h (behind {a = r} i) = byCases (k (txIn r)) (λ e. rw e (behind (copied-suffix k h i))) (λ e. rw e (copied-suffix k h i))
-
--- one record more, of a transaction of k
-pub copied-yes : (k : ℕ → Bool) (h : History) (r : Record) (rs : List Record) → k (txIn r) ≡ true
-    → copied k h (r ∷ rs) ≡ linkedTo (nextIn h (suc (length (copied k h rs))) (txIn r)) r ∷ copied k h rs
-unfolding copied
-copied-yes k h r rs e = rw e

@@ -15,9 +15,11 @@ use Rattle.format.specs.declared.Record.{Record}
 use Rattle.format.specs.Layout.{recordAt}
 use Rattle.model.specs.History.{Amount, Tag, sameAmount, read, write, commit, abort, writeTo, current, standing, nextIn}
 use Rattle.model.specs.Undo.{Upto}
-use Rattle.model.proofs.Opening.{same-refl, same-eq, Passing, opening, legal-passing}
-use Rattle.model.proofs.Legal.{Right, Legal}
+use Rattle.model.proofs.Amounts.{same-refl, same-eq}
+use Rattle.model.proofs.Opening.{Passing, opening, legal-passing}
+use Rattle.model.proofs.Legal.{Right, Legal, Sighted}
 use Rattle.model.proofs.Extension.{Numbered, Settled, legal-at}
+use Rattle.journal.specs.Inputs.{lent}
 use Rattle.journal.specs.Journal.{count, items, txIn, opOf, history, whole, amountAt}
 use Rattle.journal.specs.Copy.{headWith, linkedTo}
 use Rattle.journal.specs.Refusals.{within, torn, headRight, badHead, wrongTable, bodyRight, malformed, unchained, closed, crossed, blind, mismatched, unsettled, noRoom}
@@ -196,15 +198,20 @@ pub record-upto : (b : List ℕ) (i n : ℕ) → i < n → Upto (opOf (suc i) (r
 record-upto b i n h = rw (history-suc b i) at (history-upto b (suc i) n h)
 
 pub sound-passing : {b : List ℕ} → Sound b → (n : ℕ) → n ≤ count b → Passing (history b n)
-unfolding history closed crossed blind mismatched
+unfolding history closed crossed mismatched
 sound-passing s zero h = Passing.start
 sound-passing s (suc n) h =
     let w = s .right n h in
-    Passing.step (sound-passing s n (omega arith)) (record { closed = w .unclosed; uncrossed = w .uncrossed; sighted = w .sighted; matched = w .matched })
+    Passing.step (sound-passing s n (omega arith)) (record { closed = w .follows .unclosed; uncrossed = w .follows .uncrossed; matched = w .matched })
+
+pub sound-sighted : {b : List ℕ} → Sound b → (n : ℕ) → n ≤ count b → Sighted (history b n)
+unfolding history blind
+sound-sighted s zero h = tt
+sound-sighted s (suc n) h = (sound-sighted s n (omega arith), s .right n h .follows .sighted)
 
 -- a write's before is the standing amount from the opening table, the item's first write included
 pub before-standing : {b : List ℕ} → Sound b → (t : List Amount) (i : ℕ) → i < count b → recordAt b (suc i) .kind ≡ 2
-    → recordAt b (suc i) .before ≡ current (openingAt b t (recordAt b (suc i) .item .0)) (history b i) (recordAt b (suc i) .item .0)
+    → recordAt b (suc i) .before ≡ current (openingAt (lent b t) (recordAt b (suc i) .item .0)) (history b i) (recordAt b (suc i) .item .0)
 unfolding whole openingAt
 before-standing {b} s t i h e =
     let o : ℕ → Amount = opening (amountAt t) (history b (count b)) in

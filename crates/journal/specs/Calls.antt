@@ -1,42 +1,26 @@
 -- The result of start, post, check, slip and take-back on any input: the answer and every loan afterwards.
 -- Document 01, "The rules of taking back" and "The calls beside it". Assumes nothing.
-use mathlib.Core.Bool.{Bool, cond}
-use mathlib.Core.List.{List, [], _∷_, _++_}
-use mathlib.Core.Option.{Option, none, some}
+use mathlib.Core.Bool.{cond}
+use mathlib.Core.List.{List, [], _∷_}
+use mathlib.Core.Option.{Option}
 use Prim.Native.Nat.{ℕ, zero, suc, _+_, _*_}
 use lib.IntN.{pos}
 use lib.Dec.{eqb}
-use lib.ListN.{length, drop}
+use lib.ListN.{length}
 use Rattle.lists.specs.Search.{first, latest}
 use Rattle.lists.specs.Tables.{tabulate, store, number}
 use Rattle.format.specs.declared.Record.{Record}
 use Rattle.format.specs.Bytes.{bytes}
 use Rattle.format.specs.Layout.{recordAt, bytesOf}
-use Rattle.model.specs.History.{Op, History, Amount, tagIn, ofTx, active, aborted, applied, initial}
-use Rattle.model.specs.Undo.{surviving, undone, replayed}
+use Rattle.model.specs.History.{Op, History, Amount, tagIn, ofTx, active, applied}
+use Rattle.model.specs.Undo.{feeds, surviving, undone}
+use Rattle.journal.specs.Inputs.{Inputs}
 use Rattle.journal.specs.Journal.{count, opOf, whole, amountAt}
 use Rattle.journal.specs.Refusals.{Tally}
 use Rattle.journal.specs.Orders.{Refusal, decide, startOrder, checkOrder, chainOrder, appendOrder, undoOrder}
-use Rattle.journal.specs.Copy.{headWith, copy}
-
--- number and place, or what the call answers
-pub data Answer (A : Type 0) : Type 0 where
-  refused : ℕ → ℕ → Answer A
-  accepted : A → Answer A
-
--- the answer, by what the order of the call decides
-abbrev pub answered : {A : Type 0} → Option Refusal → A → Answer A
-answered none a = accepted a
-answered (some r) a = refused (r .number) (r .place)
-
--- a loan afterwards: as it was, where the call is refused
-abbrev pub after : {A : Type 0} → Option Refusal → A → A → A
-after none old new = new
-after (some r) old new = old
-
--- a list with its front written
-abbrev pub written : {A : Type 0} → List A → List A → List A
-written new old = new ++ drop (length new) old
+use Rattle.journal.specs.Copy.{headWith, unchanged, copy}
+pub use Rattle.journal.specs.Results.{Answer, refused, accepted, answered, after, written, Counts, Undone}
+unfoldable pub use Rattle.journal.specs.Results.{result, openingAt, openingTable, statusOf, statuses, tableLeft, counts}
 
 -- ---- start: an accepted start answers nothing
 
@@ -51,8 +35,8 @@ start b n =
 
 -- ---- check: how many sales are open
 
-unfoldable pub check : List ℕ → List Amount → Answer ℕ
-check b t = answered (decide (checkOrder b t)) (number (active (whole b)) 1 1024)
+unfoldable pub check : Inputs → Answer ℕ
+check d = answered (decide (checkOrder d)) (number (active (whole (d .journal))) 1 1024)
 
 -- ---- slip
 
@@ -121,68 +105,23 @@ pub record Appended : Type 0 where
   pub table : List Amount
   pub tally : Tally
 
-unfoldable pub append : List ℕ → List Amount → Tally → ℕ → ℕ → ℕ → Amount → Appended
-append b t c kind s x a =
+unfoldable pub append : Inputs → Tally → ℕ → ℕ → ℕ → Amount → Appended
+append d c kind s x a =
+    let b : List ℕ = d .journal in
+    let t : List Amount = d .table in
     let r : Record = newRecord t kind s x a in
-    let d : Option Refusal = decide (appendOrder b t c r) in
+    let v : Option Refusal = decide (appendOrder d c r) in
     record {
-      answer = answered d tt;
-      journal = after d b (extended b r);
-      table = after d t (tableAfter (whole b) (opOf (suc (count b)) r) t);
-      tally = after d c (raised kind c);
+      answer = answered v tt;
+      journal = after v b (extended b r);
+      table = after v t (tableAfter (whole b) (opOf (suc (count b)) r) t);
+      tally = after v c (raised kind c);
     }
 
--- ---- take-back
+-- ---- take-back: the result of the transactions that the list leaves
 
--- the mark of a sale number: 2 taken back, 1 kept, 0 no committed sale of that number
-unfoldable pub statusOf : (ℕ → Bool) → (ℕ → Bool) → ℕ → ℕ
-statusOf undone surviving s = cond (undone s) 2 (cond (surviving s) 1 0)
-
-unfoldable pub statuses : List ℕ → History → List ℕ
-statuses bad j = tabulate (statusOf (undone bad j) (surviving bad j)) 0 1025
-
--- the opening amount of item x
-unfoldable pub openingAt : List ℕ → List Amount → ℕ → Amount
-openingAt b t x = initial (amountAt t x) (whole b) x
-
--- 01: opening table
-unfoldable pub openingTable : List ℕ → List Amount → List Amount
-openingTable b t = tabulate (openingAt b t) 0 (length t)
-
--- the opening table with the afters of all kept writes set in record order
-unfoldable pub tableLeft : List ℕ → List ℕ → List Amount → List Amount
-tableLeft bad b t =
-    let k : ℕ → Bool = surviving bad (whole b) in tabulate (λ x. replayed k (openingAt b t x) (whole b) x) 0 (length t)
-
--- kept, taken-back and dropped sales, and the copy's bytes
-pub record Counts : Type 0 where
-  pub surviving : ℕ
-  pub undone : ℕ
-  pub aborted : ℕ
-  pub bytes : ℕ
-
-unfoldable pub counts : List ℕ → List ℕ → Counts
-counts bad b =
-    record {
-      surviving = number (surviving bad (whole b)) 1 1024;
-      undone = number (undone bad (whole b)) 1 1024;
-      aborted = number (aborted (whole b)) 1 1024;
-      bytes = length (copy bad b);
-    }
-
-pub record Undone : Type 0 where
-  pub answer : Answer Counts
-  pub table : List Amount
-  pub status : List ℕ
-  pub out : List ℕ
-
-unfoldable pub undo : List ℕ → List Amount → List ℕ → List ℕ → List ℕ → Undone
-undo b t bad status out =
-    let c : List ℕ = copy bad b in
-    let d : Option Refusal = decide (undoOrder b t bad status out (length c)) in
-    record {
-      answer = answered d (counts bad b);
-      table = after d t (tableLeft bad b t);
-      status = after d status (statuses bad (whole b));
-      out = after d out (written c out);
-    }
+unfoldable pub undo : Inputs → List ℕ → List ℕ → List ℕ → Undone
+undo d bad status out =
+    let j : History = whole (d .journal) in
+    let v : Option Refusal = decide (undoOrder d bad status out (length (copy bad (d .journal)))) in
+    result unchanged (undone feeds bad j) (surviving feeds bad j) v d status out

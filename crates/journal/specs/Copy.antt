@@ -8,7 +8,7 @@ use lib.ListN.{length}
 use Rattle.format.specs.declared.Record.{Record}
 use Rattle.format.specs.Layout.{bytesOf}
 use Rattle.model.specs.History.{History, nextIn}
-use Rattle.model.specs.Undo.{surviving, repaired}
+use Rattle.model.specs.Undo.{feeds, surviving, only, renumber}
 use Rattle.journal.specs.Journal.{count, items, txIn, records, whole}
 
 -- the head of a journal of n records and m items
@@ -34,21 +34,42 @@ unfoldable pub encoded : List Record → List ℕ
 encoded [] = []
 encoded (r ∷ rs) = encoded rs ++ bytesOf r
 
--- the records of the transactions of k, newest first, with next worked out again in the history h that they make
-unfoldable pub copied : (ℕ → Bool) → History → List Record → List Record
-copied k h [] = []
-copied k h (r ∷ rs) =
-    let rest : List Record = copied k h rs in
-    cond (k (txIn r)) (linkedTo (nextIn h (suc (length rest)) (txIn r)) r ∷ rest) rest
+-- how a kept record stands in the copy, its next aside, by the records that stand before it there
+abbrev pub Rule : Type 0
+Rule = List Record → Record → Record
 
--- 01: the copy's records
-unfoldable pub copyRecords : List ℕ → List ℕ → List Record
-copyRecords bad b = copied (surviving bad (whole b)) (repaired bad (whole b)) (records b (count b))
+-- 01: all other fields unchanged
+abbrev pub unchanged : Rule
+unchanged rest r = r
+
+-- the records of the transactions of k, newest first, each by the rule φ, with next worked out again in the history h that they make
+unfoldable pub copiedBy : Rule → (ℕ → Bool) → History → List Record → List Record
+copiedBy φ k h [] = []
+copiedBy φ k h (r ∷ rs) =
+    let rest : List Record = copiedBy φ k h rs in
+    cond (k (txIn r)) (linkedTo (nextIn h (suc (length rest)) (txIn r)) (φ rest r) ∷ rest) rest
+
+abbrev pub copied : (ℕ → Bool) → History → List Record → List Record
+copied k h rs = copiedBy unchanged k h rs
 
 -- the bytes of the journal of m items with these records
 unfoldable pub journalOf : ℕ → List Record → List ℕ
 journalOf m rs = bytesOf (headWith (length rs) m) ++ encoded rs
 
+-- ---- the copy that keeps the transactions of k, by the rule φ
+
+unfoldable pub recordsKept : Rule → (ℕ → Bool) → List ℕ → List Record
+recordsKept φ k b = copiedBy φ k (renumber (only k (whole b))) (records b (count b))
+
+unfoldable pub copyKept : Rule → (ℕ → Bool) → List ℕ → List ℕ
+copyKept φ k b = journalOf (items b) (recordsKept φ k b)
+
+-- ---- take-back's
+
+-- 01: the copy's records
+unfoldable pub copyRecords : List ℕ → List ℕ → List Record
+copyRecords bad b = recordsKept unchanged (surviving feeds bad (whole b)) b
+
 -- 01: the copy, to the byte
 unfoldable pub copy : List ℕ → List ℕ → List ℕ
-copy bad b = journalOf (items b) (copyRecords bad b)
+copy bad b = copyKept unchanged (surviving feeds bad (whole b)) b

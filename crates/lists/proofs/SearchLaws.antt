@@ -3,7 +3,7 @@
 use mathlib.Core.Path.{_≡_, refl, sym, _∙_}
 use mathlib.Core.Bool.{Bool, true, false, false≢true}
 use mathlib.Core.List.{List, [], _∷_}
-use mathlib.Core.Option.{none, some}
+use mathlib.Core.Option.{none, some, Option·none-ne-some}
 use Rattle.lists.specs.Search.{any, keep, latest, first}
 use Rattle.lists.proofs.BoolLaws.{byCases, or-left, or-right, or-cases, or-false-left, or-false-right, clash}
 
@@ -72,3 +72,30 @@ module _ {A : Type 0} where
       (λ g. let i : some r ≡ some w = rw g at d in let i' : r ≡ w = cc in rw (← i') h)
       (λ g. latest-kept f k p (rw g at d)))
       (λ h. latest-kept f k p (rw h at e))
+
+  pub latest-passes : (f : A → Bool) (p : List A) {w : A} → latest f p ≡ some w → f w ≡ true
+  latest-passes f [] {w} h = absurd (Option·none-ne-some w h)
+  latest-passes f (r ∷ p) {w} h =
+      byCases (f r)
+      (λ e. let i : some r ≡ some w = rw e at h in let i' : r ≡ w = cc in rw (← i') e)
+      (λ e. latest-passes f p (rw e at h))
+
+  pub latest-none : (f : A → Bool) (p : List A) → latest f p ≡ none → any f p ≡ false
+  latest-none f [] e = refl
+  latest-none f (r ∷ p) e = byCases (f r) (λ q. absurd (Option·none-ne-some r (sym (rw q at e)))) (λ q. rw q (latest-none f p (rw q at e)))
+
+  -- what is found passes another test
+  pub any-latest : (f g : A → Bool) (p : List A) {w : A} → latest f p ≡ some w → g w ≡ true → any g p ≡ true
+  any-latest f g [] {w} e h = absurd (Option·none-ne-some w e)
+  any-latest f g (r ∷ p) {w} e h =
+      byCases (f r)
+      (λ q. let i : some r ≡ some w = rw q at e in let i' : r ≡ w = cc in or-left (g r) _ (rw i' h))
+      (λ q. or-right (g r) _ (any-latest f g p (rw q at e) h))
+
+  -- some element that passes; what holds of it holds of one
+  pub any-some : (f : A → Bool) (p : List A) → any f p ≡ true → (r : A) × (f r ≡ true) × ((g : A → Bool) → g r ≡ true → any g p ≡ true)
+  any-some f [] e = absurd (false≢true e)
+  any-some f (r ∷ p) e =
+      byCases (f r)
+      (λ q. (r, q, λ g t. or-left (g r) _ t))
+      (λ q. let (w, t, h) = any-some f p (rw q at e) in (w, t, λ g u. or-right (g r) _ (h g u)))

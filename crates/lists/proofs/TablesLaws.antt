@@ -1,4 +1,4 @@
--- Laws of lists made by index, of parts stored anew, and of counts.
+-- Laws of lists made by index, of elements and parts stored anew, and of counts.
 -- Assumes nothing.
 use mathlib.Core.Path.{_≡_, refl, sym, ap, _∙_}
 use mathlib.Core.Bool.{Bool, true, false, cond, _||_}
@@ -6,13 +6,21 @@ use mathlib.Core.List.{List, [], _∷_, _++_, append-assoc, append-nil}
 use Prim.Native.Nat.{ℕ, zero, suc, _+_, _-_, _≤_, _<_}
 use native.Mathlib.Nat.{add-zero, zero-add, suc-add}
 use native.Mathlib.Omega.{arith}
-use lib.ListN.{length, take, drop, getD, length-append, length-drop, drop-of-length-le}
-use lib.Seq.{take-append-add, length-take-le, take-append-le, take-at, drop-at, drop-append-add, getD-take, getD-drop, take-take, take-nil, drop-drop, sets, sets-eq, ext-getD}
+use lib.ListN.{length, take, drop, getD, set, length-append, length-drop, drop-of-length-le, List·getD-eq-default}
+use lib.Seq.{take-append-add, length-take-le, take-append-le, take-at, drop-at, drop-append-add, getD-take, getD-drop, take-take, take-nil, drop-drop, sets, sets-eq, set-out, ext-getD}
 use borrow.Rule.Slice.PartMut.{putMid}
 use Rattle.lists.specs.Tables.{tabulate, each, store, number}
 use Rattle.lists.proofs.BoolLaws.{byCases}
 
+-- ---- behind the end of a list
+
+pub none-behind : (l : List ℕ) (i : ℕ) → length l ≤ i → 0 ≡ getD l i 0
+none-behind l i h = sym (List·getD-eq-default l 0 {n = i} h)
+
 module _ {A : Type 0} where
+  pub set-behind : (l : List A) (i : ℕ) (v : A) → length l ≤ i → l ≡ set l i v
+  set-behind l i v h = sym (set-out l i v h)
+
   -- ---- tabulate
 
   pub tabulate-zero : (f : ℕ → A) (i : ℕ) → tabulate f i 0 ≡ []

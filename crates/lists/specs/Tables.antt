@@ -1,9 +1,10 @@
--- Lists made by index, parts of a list stored anew, and how many indices pass a test.
+-- Lists made by index, parts of a list stored anew, arrays of codes, and how many indices pass a test.
 -- Assumes nothing.
 use mathlib.Core.Bool.{Bool, cond}
 use mathlib.Core.List.{List, [], _∷_, _++_}
 use Prim.Native.Nat.{ℕ, zero, suc, _+_}
-use lib.ListN.{length, take, drop}
+use lib.Dec.{eqb}
+use lib.ListN.{length, getD, take, drop}
 
 module _ {A : Type 0} where
   -- f i, f (i + 1), .. : n elements
@@ -19,6 +20,10 @@ module _ {A : Type 0} where
   -- l with v in place of what stands from `at` on
   unfoldable pub store : ℕ → List A → List A → List A
   store at v l = take at l ++ v ++ drop (at + length v) l
+
+-- element i of an array of codes is v
+unfoldable pub coded : ℕ → List ℕ → ℕ → Bool
+coded v l i = eqb (getD l i 0) v
 
 -- how many of i, i + 1, .., n numbers, pass
 unfoldable pub number : (ℕ → Bool) → ℕ → ℕ → ℕ

@@ -16,9 +16,10 @@ use Rattle.lists.proofs.SearchLaws.{first-none, first-some, first-old}
 use Rattle.model.specs.History.{Op, History, Amount, Tag, sameAmount, read, write, commit, abort, other, txOf, tagOf, beforeOf, afterOf, ofTx, writeOf, writeTo, beforeIn, applied, current, initial, standing, laterOf, tagIn, nextIn}
 use Rattle.model.specs.Rules.{mismatched}
 use Rattle.model.specs.Undo.{Upto, all, more}
+use Rattle.model.proofs.Amounts.{same-refl}
 use Rattle.model.proofs.Legal.{LegalStep, Legal}
-use Rattle.model.proofs.Repair.{stand-unwritten, write-writes}
-use Rattle.model.proofs.Opening.{same-refl, current-written, current-step}
+use Rattle.model.proofs.Repair.{legal-ends, stand-unwritten, write-writes}
+use Rattle.model.proofs.Opening.{current-written, current-step}
 
 -- ---- the chain
 
@@ -146,8 +147,7 @@ applied-all P (other t s) p x v n h k = k
 -- ---- legal histories
 
 pub legal-at : (o : ℕ → Amount) {r : Op} {p j : History} → Legal o j → Upto (r ∷ p) j → LegalStep o p r
-legal-at o k all = k .1
-legal-at o k (more i) = legal-at o (k .0) i
+legal-at o k i = legal-ends o k i .1
 
 -- ---- the opening amount
 

@@ -1,4 +1,5 @@
--- Histories that pass rules 6 to 9 where item x begins at o x, with rule 9 read for every write: its before image is the standing amount.
+-- Histories that pass rules 6, 7 and 9 where item x begins at o x, with rule 9 read for every write: its before image is the standing
+-- amount. Rule 8 stands apart.
 -- Assumes nothing.
 use mathlib.Core.Path.{_≡_}
 use mathlib.Core.Bool.{false}
@@ -22,9 +23,13 @@ Right o p (other t s) = Unit {0}
 pub record LegalStep (o : ℕ → Amount) (p : History) (r : Op) : Type 0 where
   pub closed : ended p (txOf r) ≡ false
   pub uncrossed : crossed p r ≡ false
-  pub sighted : blind p r ≡ false
   pub right : Right o p r
 
 abbrev pub Legal : (ℕ → Amount) → History → Type 0
 Legal o [] = Unit {0}
 Legal o (r ∷ p) = Legal o p × LegalStep o p r
+
+-- rule 8: each write follows a read of the item by its transaction
+abbrev pub Sighted : History → Type 0
+Sighted [] = Unit {0}
+Sighted (r ∷ p) = Sighted p × (blind p r ≡ false)

@@ -1,3 +1,6 @@
+pub mod Amounts
+pub mod Ends
+pub mod FedLaws
 pub mod Closure
 pub mod Removal
 pub mod Legal

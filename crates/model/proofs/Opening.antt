@@ -1,36 +1,24 @@
 -- Rule 9 and the opening amount as document 01 words them, and the table: what they say of a legal history.
 -- Assumes nothing.
 use mathlib.Core.Path.{_≡_, refl, sym, _∙_, ap}
-use mathlib.Core.Bool.{Bool, false≢true, true, false, _&&_}
-use mathlib.Core.List.{List, [], _∷_}
+use mathlib.Core.Bool.{Bool, false≢true, true, false}
+use mathlib.Core.List.{[], _∷_}
 use mathlib.Core.Option.{some}
 use Prim.Native.Nat.{ℕ}
-use lib.IntN.{pos, negsuc}
+use lib.IntN.{pos}
 use lib.Dec.{eqb}
-use borrow.Author.Tests.{eqb-true, eq-eqb, ne-eqb, not-false}
-use Rattle.lists.specs.Search.{any, latest, first}
+use borrow.Author.Tests.{eq-eqb, ne-eqb, not-false}
+use Rattle.lists.specs.Search.{any, first}
 use Rattle.lists.proofs.BoolLaws.{byCases, or-left, clash}
 use Rattle.lists.proofs.SearchLaws.{any-mono, first-none, first-old}
 use Rattle.model.specs.History.{Op, History, Amount, Tag, sameAmount, read, write, commit, abort, other, txOf, ofTx, writeOf, writeTo, endOf, committed, ended, active, beforeIn, applied, current, initial, standing}
-use Rattle.model.specs.Rules.{crossed, blind, mismatched}
-use Rattle.model.specs.Undo.{Upto, all, more, writeBy, surviving, survivors, replayed}
-use Rattle.model.proofs.Closure.{tail-ends, any-ends}
-use Rattle.model.proofs.Removal.{end-of}
+use Rattle.model.specs.Rules.{crossed, mismatched}
+use Rattle.model.specs.Undo.{Upto, all, more, only, replayed}
+use Rattle.model.proofs.Amounts.{same-refl, same-eq}
+use Rattle.model.proofs.Ends.{OfTx, end-of, write-of, tail-ends, any-ends, EndsLast, committed-unaborted}
 use Rattle.model.proofs.Legal.{stand, LegalStep, Legal}
-use Rattle.model.proofs.Strict.{val, inv, latest-by, write-of}
-use Rattle.model.proofs.Repair.{stand-only, stand-unwritten}
-
--- ---- amounts compared
-
-pub same-refl : (a : Amount) → sameAmount a a ≡ true
-same-refl (pos n) = eq-eqb n n refl
-same-refl (negsuc n) = eq-eqb n n refl
-
-pub same-eq : (a b : Amount) → sameAmount a b ≡ true → a ≡ b
-same-eq (pos m) (pos n) e = ap pos (eqb-true m n e)
-same-eq (pos m) (negsuc n) e = absurd (false≢true e)
-same-eq (negsuc m) (pos n) e = absurd (false≢true e)
-same-eq (negsuc m) (negsuc n) e = ap negsuc (eqb-true m n e)
+use Rattle.model.proofs.Strict.{inv, replayed-by}
+use Rattle.model.proofs.Repair.{replayed-only, stand-unwritten}
 
 -- ---- with a write, the standing amount does not depend on where the item began
 
@@ -45,17 +33,20 @@ pub current-written : (d e : Amount) (p : History) (x : ℕ) → any (writeTo x)
 current-written d e [] x h = absurd (false≢true h)
 current-written d e (r ∷ p) x h = applied-written r p x _ _ h (current-written d e p x)
 
--- ---- rules 6 to 9 as conditions
+-- ---- rules 6, 7 and 9 as conditions
 
 pub record Passes (p : History) (r : Op) : Type 0 where
   pub closed : ended p (txOf r) ≡ false
   pub uncrossed : crossed p r ≡ false
-  pub sighted : blind p r ≡ false
   pub matched : mismatched p r ≡ false
 
 pub data Passing : History → Type 0 where
   start : Passing []
   step : {r : Op} {p : History} → Passing p → Passes p r → Passing (r ∷ p)
+
+pub passing-ends : {p : History} → Passing p → EndsLast p
+passing-ends start = tt
+passing-ends (step k l) = (passing-ends k, l .closed)
 
 -- the opening amounts of j, where the table has t
 abbrev pub opening : (ℕ → Amount) → History → ℕ → Amount
@@ -73,11 +64,11 @@ module _ (t : ℕ → Amount) (j : History) where
       (λ n. sym (stand-unwritten (opening t j) x p n ∙ ap (λ w. beforeIn w (t x)) (first-upto (writeTo x) i (eq-eqb x x refl) n)))
 
   legalStep-passes : (r : Op) (p : History) → Upto (r ∷ p) j → Passes p r → LegalStep (opening t j) p r
-  legalStep-passes (read g s x) p i k = record { closed = k .closed; uncrossed = k .uncrossed; sighted = k .sighted; right = tt }
-  legalStep-passes (write g s x b a) p i k = record { closed = k .closed; uncrossed = k .uncrossed; sighted = k .sighted; right = right-write g s x b a p i (k .matched) }
-  legalStep-passes (commit g s) p i k = record { closed = k .closed; uncrossed = k .uncrossed; sighted = k .sighted; right = tt }
-  legalStep-passes (abort g s) p i k = record { closed = k .closed; uncrossed = k .uncrossed; sighted = k .sighted; right = tt }
-  legalStep-passes (other g s) p i k = record { closed = k .closed; uncrossed = k .uncrossed; sighted = k .sighted; right = tt }
+  legalStep-passes (read g s x) p i k = record { closed = k .closed; uncrossed = k .uncrossed; right = tt }
+  legalStep-passes (write g s x b a) p i k = record { closed = k .closed; uncrossed = k .uncrossed; right = right-write g s x b a p i (k .matched) }
+  legalStep-passes (commit g s) p i k = record { closed = k .closed; uncrossed = k .uncrossed; right = tt }
+  legalStep-passes (abort g s) p i k = record { closed = k .closed; uncrossed = k .uncrossed; right = tt }
+  legalStep-passes (other g s) p i k = record { closed = k .closed; uncrossed = k .uncrossed; right = tt }
 
   legal-upto : (p : History) → Upto p j → Passing p → Legal (opening t j) p
   legal-upto [] i start = tt
@@ -99,7 +90,7 @@ module _ (o : ℕ → Amount) where
   mismatched-legal (other g s) p k = refl
 
   pub passes-legal : (r : Op) (p : History) → LegalStep o p r → Passes p r
-  passes-legal r p k = record { closed = k .closed; uncrossed = k .uncrossed; sighted = k .sighted; matched = mismatched-legal r p k }
+  passes-legal r p k = record { closed = k .closed; uncrossed = k .uncrossed; matched = mismatched-legal r p k }
 
   -- what is legal passes
   pub passing-legal : (p : History) → Legal o p → Passing p
@@ -112,37 +103,28 @@ module _ (o : ℕ → Amount) where
 
 -- ---- the table left
 
--- the opening amount, with the kept writes set, is the after image of the newest of them
-pub replayed-val : (o : ℕ → Amount) (k : ℕ → Bool) (p : History) (x : ℕ) → replayed k (o x) p x ≡ val o x (latest (writeBy k x) p)
-unfolding val
-replayed-val o k [] x = refl
-replayed-val o k (read t s y ∷ p) x = replayed-val o k p x
-replayed-val o k (write t s y b a ∷ p) x = byCases (eqb x y && k s) (λ e. rw e) (λ e. rw e (replayed-val o k p x))
-replayed-val o k (commit t s ∷ p) x = replayed-val o k p x
-replayed-val o k (abort t s ∷ p) x = replayed-val o k p x
-replayed-val o k (other t s ∷ p) x = replayed-val o k p x
-
--- the table left is what the copy leaves
-pub left-stands : (o : ℕ → Amount) (l : List ℕ) (j : History) → Legal o j → (x : ℕ) → replayed (surviving l j) (o x) j x ≡ stand o (survivors l j) x
-left-stands o l j k x = replayed-val o (surviving l j) j x ∙ sym (stand-only o l j k x j all)
+-- the table that a set of committed transactions leaves is what their records alone leave
+pub left-stands : (k : ℕ → Bool) (o : ℕ → Amount) (j : History) → EndsLast j → ((s : ℕ) → k s ≡ true → committed j s ≡ true) → (x : ℕ)
+    → replayed k (o x) j x ≡ stand o (only k j) x
+left-stands k o j c h x = replayed-only k (o x) x j (λ s e. committed-unaborted s j c (h s e))
 
 -- every transaction with an operation has an end
 abbrev pub Finished : History → Type 0
 Finished j = (s : ℕ) → active j s ≡ false
 
-no-op : (f : Op → Bool) (s : ℕ) → ((r : Op) → f r ≡ true → s ≡ txOf r) → (j : History) → any (ofTx s) j ≡ false → any f j ≡ false
+no-op : (f : Op → Bool) (s : ℕ) → OfTx f s → (j : History) → any (ofTx s) j ≡ false → any f j ≡ false
 no-op f s h j n = byCases (any f j) (λ q. clash (any-mono f (ofTx s) (λ r e. eq-eqb s (txOf r) (h r e)) j q) n) (λ q. q)
 
 pub finished-ended : (j : History) → Finished j → (s : ℕ) → any (ofTx s) j ≡ true → ended j s ≡ true
 finished-ended j f s e = not-false (ended j s) (rw e at (f s))
 
--- with every transaction finished, the standing amounts are those of the committed writes
+-- with every transaction finished, an item stands where the committed writes set it
 pub finished-stand : (o : ℕ → Amount) (j : History) → Legal o j → Finished j → (s : ℕ) → any (ofTx s) j ≡ false → (x : ℕ)
-    → stand o j x ≡ val o x (latest (writeBy (committed j) x) j)
+    → stand o j x ≡ replayed (committed j) (o x) j x
 finished-stand o j k f s n x =
     inv o x j k .amount s (no-op (endOf s) s (end-of s) j n)
     (λ v m e. byCases (any (ofTx v) j) (λ q. clash (finished-ended j f v q) e) (λ q. no-op (writeOf v x) v (write-of v x) j q))
-    ∙ ap (val o x) (latest-by _ _ x j λ u q. rw (ne-eqb s u (λ z. clash (rw (← z) at q) (no-op (writeOf s x) s (write-of s x) j n))))
+    ∙ replayed-by _ _ _ x j (λ u q. rw (ne-eqb s u (λ z. clash (rw (← z) at q) (no-op (writeOf s x) s (write-of s x) j n))))
 
 -- one operation more, where the item stands at v if it is written before
 pub current-step : (d v : Amount) (r : Op) (p : History) (x : ℕ) → any (writeTo x) (r ∷ p) ≡ true → (any (writeTo x) p ≡ true → current d p x ≡ v) → current d (r ∷ p) x ≡ applied r p x v

@@ -9,15 +9,13 @@ use lib.ListN.{length}
 use lib.Dec.{eqb}
 use Rattle.lists.specs.Search.{any, latest, orElse, first, member}
 use Rattle.lists.proofs.BoolLaws.{byCases}
-use Rattle.model.specs.History.{Op, History, Amount, Tag, read, write, commit, abort, other, txOf, tagOf, beforeOf, ofTx, readOf, writeOf, writeTo, accessTo, commitOf, abortOf, endOf, committed, ended, active, beforeIn, applied, current, initial}
-use Rattle.model.specs.Rules.{byOther}
-use Rattle.model.specs.Undo.{writeBy, sees, fed, fedBy, reached, undone, surviving, only, retag, renumber, repaired}
-use Rattle.model.proofs.Legal.{LegalStep, Legal}
+use Rattle.model.specs.History.{Op, History, Amount, Tag, read, write, commit, abort, other, txOf, tagOf, beforeOf, unread, never, ofTx, readOf, writeOf, writeTo, accessTo, commitOf, endOf, committed, ended, beforeIn, applied, current}
+use Rattle.model.specs.Rules.{byOther, blind}
+use Rattle.model.specs.Undo.{retag, Untagged, Feeding, feedBy, sees, fed, fedBy, reached, surviving, only, renumber, repaired}
+use Rattle.model.proofs.Ends.{byKind-untagged}
+use Rattle.model.proofs.FedLaws.{fed-by}
+use Rattle.model.proofs.Legal.{LegalStep, Legal, Sighted}
 use Rattle.model.proofs.Extension.{Numbered}
-
--- a test that does not look at the record number
-abbrev pub Untagged : (Op → Bool) → Type 0
-Untagged f = (i : Tag) (r : Op) → f (retag i r) ≡ f r
 
 pub txOf-retag : (i : Tag) (r : Op) → txOf (retag i r) ≡ txOf r
 txOf-retag i (read t s x) = refl
@@ -26,41 +24,8 @@ txOf-retag i (commit t s) = refl
 txOf-retag i (abort t s) = refl
 txOf-retag i (other t s) = refl
 
--- a test that gives the same on all five kinds, whatever the tag
-pub untagged : (f : Op → Bool) → ((i t : Tag) (s x : ℕ) → f (read i s x) ≡ f (read t s x)) → ((i t : Tag) (s x : ℕ) (b a : Amount) → f (write i s x b a) ≡ f (write t s x b a))
-    → ((i t : Tag) (s : ℕ) → f (commit i s) ≡ f (commit t s)) → ((i t : Tag) (s : ℕ) → f (abort i s) ≡ f (abort t s)) → ((i t : Tag) (s : ℕ) → f (other i s) ≡ f (other t s)) → Untagged f
-untagged f r w c a o i (read t s x) = r i t s x
-untagged f r w c a o i (write t s x b d) = w i t s x b d
-untagged f r w c a o i (commit t s) = c i t s
-untagged f r w c a o i (abort t s) = a i t s
-untagged f r w c a o i (other t s) = o i t s
-
-pub readOf-untagged : (s x : ℕ) → Untagged (readOf s x)
-readOf-untagged s x = untagged (readOf s x) (λ i t v y. refl) (λ i t v y b a. refl) (λ i t v. refl) (λ i t v. refl) (λ i t v. refl)
-
-pub writeOf-untagged : (s x : ℕ) → Untagged (writeOf s x)
-writeOf-untagged s x = untagged (writeOf s x) (λ i t v y. refl) (λ i t v y b a. refl) (λ i t v. refl) (λ i t v. refl) (λ i t v. refl)
-
-pub writeTo-untagged : (x : ℕ) → Untagged (writeTo x)
-writeTo-untagged x = untagged (writeTo x) (λ i t v y. refl) (λ i t v y b a. refl) (λ i t v. refl) (λ i t v. refl) (λ i t v. refl)
-
-pub accessTo-untagged : (x : ℕ) → Untagged (accessTo x)
-accessTo-untagged x = untagged (accessTo x) (λ i t v y. refl) (λ i t v y b a. refl) (λ i t v. refl) (λ i t v. refl) (λ i t v. refl)
-
-pub commitOf-untagged : (s : ℕ) → Untagged (commitOf s)
-commitOf-untagged s = untagged (commitOf s) (λ i t v y. refl) (λ i t v y b a. refl) (λ i t v. refl) (λ i t v. refl) (λ i t v. refl)
-
-pub abortOf-untagged : (s : ℕ) → Untagged (abortOf s)
-abortOf-untagged s = untagged (abortOf s) (λ i t v y. refl) (λ i t v y b a. refl) (λ i t v. refl) (λ i t v. refl) (λ i t v. refl)
-
-pub endOf-untagged : (s : ℕ) → Untagged (endOf s)
-endOf-untagged s = untagged (endOf s) (λ i t v y. refl) (λ i t v y b a. refl) (λ i t v. refl) (λ i t v. refl) (λ i t v. refl)
-
 pub ofTx-untagged : (s : ℕ) → Untagged (ofTx s)
 ofTx-untagged s i r = ap (eqb s) (txOf-retag i r)
-
-pub writeBy-untagged : (g : ℕ → Bool) (x : ℕ) → Untagged (writeBy g x)
-writeBy-untagged g x = untagged (writeBy g x) (λ i t v y. refl) (λ i t v y b a. refl) (λ i t v. refl) (λ i t v. refl) (λ i t v. refl)
 
 -- ---- tests over a renumbered history
 
@@ -113,26 +78,20 @@ pub applied-renumber : (i : Tag) (r : Op) (p : History) (x : ℕ) (v : Amount) �
 applied-renumber i (read t s y) p x v = refl
 applied-renumber i (write t s y b a) p x v = refl
 applied-renumber i (commit t s) p x v = refl
-applied-renumber i (abort t s) p x v = beforeIn-like (first-renumber (writeOf s x) (writeOf-untagged s x) p) v
+applied-renumber i (abort t s) p x v = beforeIn-like (first-renumber (writeOf s x) (byKind-untagged _ _ _ _) p) v
 applied-renumber i (other t s) p x v = refl
 
 pub current-renumber : (d : Amount) (p : History) (x : ℕ) → current d (renumber p) x ≡ current d p x
 current-renumber d [] x = refl
 current-renumber d (r ∷ p) x = applied-renumber (suc (length p)) r p x (current d (renumber p) x) ∙ ap (applied r p x) (current-renumber d p x)
 
-pub initial-renumber : (v : Amount) (p : History) (x : ℕ) → initial v (renumber p) x ≡ initial v p x
-initial-renumber v p x = beforeIn-like (first-renumber (writeTo x) (writeTo-untagged x) p) v
-
 -- ---- transactions
 
 pub committed-renumber : (p : History) (s : ℕ) → committed (renumber p) s ≡ committed p s
-committed-renumber p s = any-renumber (commitOf s) (commitOf-untagged s) p
+committed-renumber p s = any-renumber (commitOf s) (byKind-untagged _ _ _ _) p
 
 pub ended-renumber : (p : History) (s : ℕ) → ended (renumber p) s ≡ ended p s
-ended-renumber p s = any-renumber (endOf s) (endOf-untagged s) p
-
-pub active-renumber : (p : History) (s : ℕ) → active (renumber p) s ≡ active p s
-active-renumber p s = rw (any-renumber (ofTx s) (ofTx-untagged s) p, ended-renumber p s)
+ended-renumber p s = any-renumber (endOf s) (byKind-untagged _ _ _ _) p
 
 -- ---- the rules
 
@@ -142,45 +101,60 @@ byOther-renumber f u p s =
     ∙ any-renumber (λ r. f r && (not (eqb s (txOf r)) && not (ended p (txOf r)))) (λ i r. rw (u i r, txOf-retag i r)) p
 
 legalStep-renumber : (o : ℕ → Amount) (i : Tag) (p : History) (r : Op) → LegalStep o p r → LegalStep o (renumber p) (retag i r)
-legalStep-renumber o i p (read t s x) k = record { closed = ended-renumber p s ∙ k .closed; uncrossed = byOther-renumber (writeTo x) (writeTo-untagged x) p s ∙ k .uncrossed; sighted = refl; right = tt }
+legalStep-renumber o i p (read t s x) k = record { closed = ended-renumber p s ∙ k .closed; uncrossed = byOther-renumber (writeTo x) (byKind-untagged _ _ _ _) p s ∙ k .uncrossed; right = tt }
 legalStep-renumber o i p (write t s x b a) k =
     record {
       closed = ended-renumber p s ∙ k .closed;
-      uncrossed = byOther-renumber (accessTo x) (accessTo-untagged x) p s ∙ k .uncrossed;
-      sighted = rw (any-renumber (readOf s x) (readOf-untagged s x) p) (k .sighted);
+      uncrossed = byOther-renumber (accessTo x) (byKind-untagged _ _ _ _) p s ∙ k .uncrossed;
       right = k .right ∙ sym (current-renumber (o x) p x);
     }
-legalStep-renumber o i p (commit t s) k = record { closed = ended-renumber p s ∙ k .closed; uncrossed = refl; sighted = refl; right = tt }
-legalStep-renumber o i p (abort t s) k = record { closed = ended-renumber p s ∙ k .closed; uncrossed = refl; sighted = refl; right = tt }
-legalStep-renumber o i p (other t s) k = record { closed = ended-renumber p s ∙ k .closed; uncrossed = refl; sighted = refl; right = tt }
+legalStep-renumber o i p (commit t s) k = record { closed = ended-renumber p s ∙ k .closed; uncrossed = refl; right = tt }
+legalStep-renumber o i p (abort t s) k = record { closed = ended-renumber p s ∙ k .closed; uncrossed = refl; right = tt }
+legalStep-renumber o i p (other t s) k = record { closed = ended-renumber p s ∙ k .closed; uncrossed = refl; right = tt }
 
 pub legal-renumber : (o : ℕ → Amount) (p : History) → Legal o p → Legal o (renumber p)
 legal-renumber o [] k = tt
 legal-renumber o (r ∷ p) k = (legal-renumber o p (k .0), legalStep-renumber o (suc (length p)) p r (k .1))
 
+blind-renumber : (i : Tag) (p : History) (r : Op) → blind (renumber p) (retag i r) ≡ blind p r
+blind-renumber i p (read t s x) = refl
+blind-renumber i p (write t s x b a) = ap not (any-renumber (readOf s x) (byKind-untagged _ _ _ _) p)
+blind-renumber i p (commit t s) = refl
+blind-renumber i p (abort t s) = refl
+blind-renumber i p (other t s) = refl
+
+pub sighted-renumber : (p : History) → Sighted p → Sighted (renumber p)
+sighted-renumber [] g = tt
+sighted-renumber (r ∷ p) g = (sighted-renumber p (g .0), blind-renumber (suc (length p)) p r ∙ g .1)
+
 -- ---- the undo set
 
-pub fed-renumber : (p : History) (s x : ℕ) → Like (fed (renumber p) s x) (fed p s x)
-fed-renumber p s x =
-    rw (ap (λ (c : ℕ → Bool). latest (writeBy (λ v. eqb s v || c v) x) (renumber p)) (fun-ext (committed-renumber p)))
-    (latest-renumber (writeBy (sees p s) x) (writeBy-untagged (sees p s) x) p)
+module _ (φ : Op → Bool) (law : Feeding φ) where
+  -- what feeds is found by one test, which does not look at record numbers
+  pub fed-found : (p : History) (s x : ℕ) → (f : Op → Bool) × Untagged f × (fed φ p s x ≡ latest f p) × (fed φ (renumber p) s x ≡ latest f (renumber p))
+  fed-found p s x = (
+    feedBy φ (sees p s) x,
+    λ i r. rw (byKind-untagged unread (λ v y b a. eqb x y && sees p s v) never never i r, law .untagged i r),
+    fed-by φ (sees p s) p s x (λ v q. refl),
+    fed-by φ (sees p s) (renumber p) s x (λ v q. ap (λ c. eqb s v || c) (committed-renumber p v)),
+  )
 
-reached-cond : (i : Tag) (l : List ℕ) (r : Op) (p : History) → reached l (renumber p) ≡ reached l p → reached l (retag i r ∷ renumber p) ≡ reached l (r ∷ p)
-reached-cond i l (read t s x) p h = rw (h, fedBy-like (reached l p) (fed-renumber p s x))
-reached-cond i l (write t s x b a) p h = h
-reached-cond i l (commit t s) p h = h
-reached-cond i l (abort t s) p h = h
-reached-cond i l (other t s) p h = h
+  pub fed-renumber : (p : History) (s x : ℕ) → Like (fed φ (renumber p) s x) (fed φ p s x)
+  fed-renumber p s x = let (f, u, e, e') = fed-found p s x in rw (e, e') (latest-renumber f u p)
 
-pub reached-renumber : (l : List ℕ) (p : History) → reached l (renumber p) ≡ reached l p
-reached-renumber l [] = refl
-reached-renumber l (r ∷ p) = reached-cond (suc (length p)) l r p (reached-renumber l p)
+  reached-cond : (i : Tag) (l : List ℕ) (r : Op) (p : History) → reached φ l (renumber p) ≡ reached φ l p → reached φ l (retag i r ∷ renumber p) ≡ reached φ l (r ∷ p)
+  reached-cond i l (read t s x) p h = rw (h, fedBy-like (reached φ l p) (fed-renumber p s x))
+  reached-cond i l (write t s x b a) p h = h
+  reached-cond i l (commit t s) p h = h
+  reached-cond i l (abort t s) p h = h
+  reached-cond i l (other t s) p h = h
 
-pub surviving-renumber : (l : List ℕ) (p : History) (s : ℕ) → surviving l (renumber p) s ≡ surviving l p s
-surviving-renumber l p s = rw (committed-renumber p s, reached-renumber l p)
+  pub reached-renumber : (l : List ℕ) (p : History) → reached φ l (renumber p) ≡ reached φ l p
+  reached-renumber l [] = refl
+  reached-renumber l (r ∷ p) = reached-cond (suc (length p)) l r p (reached-renumber l p)
 
-pub undone-renumber : (l : List ℕ) (p : History) (s : ℕ) → undone l (renumber p) s ≡ undone l p s
-undone-renumber l p s = rw (committed-renumber p s, reached-renumber l p)
+  pub surviving-renumber : (l : List ℕ) (p : History) (s : ℕ) → surviving φ l (renumber p) s ≡ surviving φ l p s
+  surviving-renumber l p s = rw (committed-renumber p s, reached-renumber l p)
 
 retag-retag : (i j : Tag) (r : Op) → retag i (retag j r) ≡ retag i r
 retag-retag i j (read t s x) = refl
@@ -205,8 +179,8 @@ renumber-only k (r ∷ p) =
     (λ e. rw (txOf-retag (suc (length p)) r, e) (renumber-only k p))
 
 -- a take-back of the renumbered history leaves the same
-pub repaired-renumber : (l : List ℕ) (p : History) → repaired l (renumber p) ≡ repaired l p
-repaired-renumber l p = ap (λ k. renumber (only k (renumber p))) (fun-ext (surviving-renumber l p)) ∙ renumber-only (surviving l p) p
+pub repaired-renumber : (φ : Op → Bool) → Feeding φ → (l : List ℕ) (p : History) → repaired φ l (renumber p) ≡ repaired φ l p
+repaired-renumber φ law l p = ap (λ k. renumber (only k (renumber p))) (fun-ext (surviving-renumber φ law l p)) ∙ renumber-only (surviving φ l p) p
 
 -- ---- record numbers of a renumbered history
 

@@ -1,8 +1,7 @@
 -- The copy passes rules 6 to 9 from the same opening amounts.
 -- Assumes nothing.
-use mathlib.Core.Path.{_≡_, refl, sym, _∙_, ap}
-use mathlib.Core.Bool.{Bool, true, false, _&&_, and-false}
-use mathlib.Core.Logic.{_⊎_, inl, inr, ⊎-elim}
+use mathlib.Core.Path.{_≡_, refl, sym, _∙_}
+use mathlib.Core.Bool.{Bool, true, false, cond, _&&_, and-false}
 use mathlib.Core.List.{List, [], _∷_}
 use mathlib.Core.Option.{some}
 use Prim.Native.Nat.{ℕ}
@@ -11,140 +10,186 @@ use borrow.Author.Tests.{eqb-true, eq-eqb, not-false}
 use Rattle.lists.specs.Search.{any, latest, first}
 use Rattle.lists.proofs.BoolLaws.{byCases, or-left, or-cases, and-left, and-right, or-false-left, or-false-right, clash}
 use Rattle.lists.proofs.SearchLaws.{any-keep-false, any-mono, first-none, first-old}
-use Rattle.model.specs.History.{Op, History, Amount, Tag, read, write, commit, abort, other, txOf, readOf, writeOf, writeTo, accessTo, commitOf, endOf, committed, ended, beforeIn}
-use Rattle.model.specs.Rules.{byOther}
-use Rattle.model.specs.Undo.{Upto, all, more, writeBy, sees, fed, surviving, only, survivors}
-use Rattle.model.proofs.Closure.{tail-ends, any-ends, EndsLast, committed-ended}
-use Rattle.model.proofs.Removal.{commit-of, end-of, read-of, any-only, fed-surviving}
-use Rattle.model.proofs.Legal.{stand, LegalStep, Legal}
-use Rattle.model.proofs.Strict.{legal-closed, uncrossed-any, latest-by, latest-within, excl, val, inv, write-before, not-committed, neq-sym, write-of, write-to, read-access, unlike, Alone}
+use Rattle.model.specs.History.{Op, History, Amount, Tag, read, write, commit, abort, other, txOf, readOf, writeOf, accessOf, writeTo, accessTo, abortOf, endOf, committed, aborted, ended, beforeIn, current}
+use Rattle.model.specs.Rules.{byOther, blind}
+use Rattle.model.specs.Undo.{Upto, all, more, Feeding, feedBy, sees, fed, surviving, only, survivors, replayed}
+use Rattle.model.proofs.Ends.{tail-ends, none-ends, EndsLast, after-end, end-of, read-of, access-to, read-access, write-to}
+use Rattle.model.proofs.FedLaws.{fed-by, fed-own, fed-still}
+use Rattle.model.proofs.Removal.{any-only, surviving-unaborted, fed-surviving}
+use Rattle.model.proofs.Legal.{stand, LegalStep, Legal, Sighted}
+use Rattle.model.proofs.Strict.{legal-closed, uncrossed-any, replayed-by, excl, inv, neq-sym, unlike, Alone, alone-read, alone-write}
 
 pub legal-ends : (o : ℕ → Amount) {p j : History} → Legal o j → Upto p j → Legal o p
 legal-ends o k all = k
 legal-ends o k (more i) = legal-ends o (k .0) i
 
-ends-cons : {r q : Op} {p j : History} → Upto (r ∷ p) (q ∷ j) → (r ≡ q) ⊎ Upto (r ∷ p) j
-ends-cons all = inl refl
-ends-cons (more i) = inr i
+pub sighted-ends : {p j : History} → Sighted j → Upto p j → Sighted p
+sighted-ends k all = k
+sighted-ends k (more i) = sighted-ends (k .0) i
 
-ends-surviving : (h : ℕ → Bool) (q : History) {r : Op} {p : History} → Upto (r ∷ p) (only h q) → h (txOf r) ≡ true
-ends-surviving h [] i = absurd (elim i [ ])
-ends-surviving h (z ∷ q) {r} {p} i =
-    byCases (h (txOf z))
-    (λ e. ⊎-elim (λ (g : r ≡ z). rw g e) (λ (g : Upto (r ∷ p) (only h q)). ends-surviving h q g) (ends-cons (rw e at i)))
-    (λ e. ends-surviving h q (rw e at i))
+-- ---- amounts
 
--- once a transaction has ended, it is committed or not for good
-pub after-end : (v : ℕ) {p j : History} → EndsLast j → Upto p j → ended p v ≡ true → committed j v ≡ committed p v
-after-end v c all e = refl
-after-end v c (more {q} {j} i) e =
-    byCases (commitOf v q)
-    (λ h. clash (rw (commit-of v q h) at (any-ends (endOf v) i e)) (c .1))
-    (λ h. rw h (after-end v (c .0) i e))
+-- the records of transactions that were not rolled back leave an item where their writes set it
+pub replayed-only : (k : ℕ → Bool) (d : Amount) (x : ℕ) (p : History) → ((v : ℕ) → k v ≡ true → aborted p v ≡ false) → replayed k d p x ≡ current d (only k p) x
+replayed-only k d x [] h = refl
+replayed-only k d x (read t v y ∷ p) h = let ih = replayed-only k d x p h in byCases (k v) (λ e. rw e ih) (λ e. rw e ih)
+replayed-only k d x (write t v y b a ∷ p) h =
+    let ih = replayed-only k d x p h in
+    byCases (k v) (λ e. rw e (byCases (eqb x y) (λ q. rw q) (λ q. rw q ih))) (λ e. rw (e, and-false (eqb x y)) ih)
+replayed-only k d x (commit t v ∷ p) h = let ih = replayed-only k d x p h in byCases (k v) (λ e. rw e ih) (λ e. rw e ih)
+replayed-only k d x (abort t v ∷ p) h =
+    let ih = replayed-only k d x p (λ u q. or-false-right (eqb u v) _ (h u q)) in
+    byCases (k v) (λ e. clash (or-left (eqb v v) _ (eq-eqb v v refl)) (h v e)) (λ e. rw e ih)
+replayed-only k d x (other t v ∷ p) h = let ih = replayed-only k d x p h in byCases (k v) (λ e. rw e ih) (λ e. rw e ih)
 
-module _ (o : ℕ → Amount) (l : List ℕ) (j : History) (k : Legal o j) where
+module _ (o : ℕ → Amount) (j : History) (k : Legal o j) (x : ℕ) where
+  -- To a transaction that commits, open and alone at the item: it sees those that commit, ..
+  pub sees-committed : (s : ℕ) {p : History} → Upto p j → committed j s ≡ true → Alone o x p s → (v : ℕ) → any (writeOf v x) p ≡ true → sees p s v ≡ committed j v
+  sees-committed s {p} i h al v w =
+      byCases (eqb s v)
+      (λ e. rw (e, ← eqb-true s v e) (sym h))
+      (λ e. rw e (byCases (ended p v) (λ y. sym (after-end v (legal-closed o j k) i y)) (λ y. clash w (al v e y))))
+
+  -- .. so the newest of their writes that may feed feeds it, ..
+  pub fed-committed : (φ : Op → Bool) (s : ℕ) {p : History} → Upto p j → committed j s ≡ true → Alone o x p s → fed φ p s x ≡ latest (feedBy φ (committed j) x) p
+  fed-committed φ s {p} i h al = fed-by φ (committed j) p s x (sees-committed s i h al)
+
+  -- .. and the item stands where their writes set it.
+  stand-committed : (s : ℕ) {p : History} → Upto p j → committed j s ≡ true → ended p s ≡ false → Alone o x p s → stand o p x ≡ replayed (committed j) (o x) p x
+  stand-committed s {p} i h e al = inv o x p (legal-ends o k i) .amount s e al ∙ replayed-by _ _ _ x p (sees-committed s i h al)
+
+-- ---- the copy
+
+module _ (φ : Op → Bool) (law : Feeding φ) (o : ℕ → Amount) (l : List ℕ) (j : History) (k : Legal o j) where
   c : EndsLast j
   c = legal-closed o j k
 
   module _ (x : ℕ) where
-    -- what feeds a read that an open kept transaction made, feeds it still
-    reader-fed : (s : ℕ) → surviving l j s ≡ true → (p : History) → Upto p j → ended p s ≡ false → any (readOf s x) p ≡ true
-        → (w : Op) → fed p s x ≡ some w → surviving l j (txOf w) ≡ true
+    -- Where what feeds is a kept write, the kept writes set the item where all committed writes do: of those taken back, the ones since
+    -- may not feed, and so left the amount as it was.
+    replayed-kept : (p : History) → Upto p j → ((w : Op) → latest (feedBy φ (committed j) x) p ≡ some w → surviving φ l j (txOf w) ≡ true)
+        → replayed (committed j) (o x) p x ≡ replayed (surviving φ l j) (o x) p x
+    replayed-kept [] i n = refl
+    replayed-kept (read t v y ∷ p) i n = replayed-kept p (tail-ends i) n
+    replayed-kept (write t v y b a ∷ p) i n =
+        byCases (eqb x y)
+        (λ q. rw q
+        (byCases (surviving φ l j v)
+        (λ e. rw (e, and-left (committed j v) _ e))
+        (λ e. rw e
+        (byCases (committed j v)
+        (λ h. byCases (φ (write t v y b a))
+        (λ f. clash (n (write t v y b a) (rw (q, h, f))) e)
+        (λ f.
+        let i' : Upto (write t v x b a ∷ p) j = rw (← eqb-true x y q) at i in
+        let m = legal-ends o k i' .1 in
+        rw h
+        (sym (law .still t v y b a f) ∙ m .right ∙ stand-committed o j k x v (tail-ends i) h (m .closed) (alone-write o x t v b a p m)
+        ∙ replayed-kept p (tail-ends i) (rw (q, h, f) at n))))
+        (λ h. rw h (replayed-kept p (tail-ends i) (rw (q, h) at n)))))))
+        (λ q. rw q (replayed-kept p (tail-ends i) (rw q at n)))
+    replayed-kept (commit t v ∷ p) i n = replayed-kept p (tail-ends i) n
+    replayed-kept (abort t v ∷ p) i n = replayed-kept p (tail-ends i) n
+    replayed-kept (other t v ∷ p) i n = replayed-kept p (tail-ends i) n
+
+    -- a kept transaction, alone at the item and fed by a kept write, finds the amount that it found
+    stand-kept : (s : ℕ) (p : History) → Upto p j → surviving φ l j s ≡ true → ended p s ≡ false → Alone o x p s
+        → ((w : Op) → fed φ p s x ≡ some w → surviving φ l j (txOf w) ≡ true) → stand o (only (surviving φ l j) p) x ≡ stand o p x
+    stand-kept s p i h e al n =
+        let g = and-left (committed j s) _ h in
+        sym (replayed-only (surviving φ l j) (o x) x p (λ v q. none-ends (abortOf v) i (surviving-unaborted φ l j c v q)))
+        ∙ sym (replayed-kept p i (λ w q. n w (fed-committed o j k x φ s i g al ∙ q)))
+        ∙ sym (stand-committed o j k x s i g e al)
+
+    pub read-stands : (t : Tag) (s : ℕ) (p : History) → Upto (read t s x ∷ p) j → surviving φ l j s ≡ true → stand o (only (surviving φ l j) p) x ≡ stand o p x
+    read-stands t s p i h =
+        let m = legal-ends o k i .1 in
+        stand-kept s p (tail-ends i) h (m .closed) (alone-read o x t s p m) (λ w e. fed-surviving φ l j c i h e)
+
+    -- what fed a read that an open kept transaction made feeds it still
+    reader-fed : (s : ℕ) → surviving φ l j s ≡ true → (p : History) → Upto p j → ended p s ≡ false → any (readOf s x) p ≡ true
+        → (w : Op) → fed φ p s x ≡ some w → surviving φ l j (txOf w) ≡ true
     reader-fed s h [] i e r w f = clash r refl
     reader-fed s h (read t v y ∷ p) i e r w f =
+        let f' = sym (fed-still φ (read t v y) p s x refl (λ u q. refl)) ∙ f in
         or-cases (eqb s v && eqb x y) (any (readOf s x) p) r
         (λ q. let a = eqb-true s v (and-left (eqb s v) _ q) in let b = eqb-true x y (and-right (eqb s v) _ q) in
-        fed-surviving l j c i (rw a at h) (rw (a, b) at f))
-        (λ q. reader-fed s h p (tail-ends i) e q w f)
+        fed-surviving φ l j c i (rw a at h) (rw (a, b) at f'))
+        (λ q. reader-fed s h p (tail-ends i) e q w f')
     reader-fed s h (write t v y b a ∷ p) i e r w f =
         byCases (eqb x y)
         (λ q. byCases (eqb s v)
-        (λ z. let g : some (write t v y b a) ≡ some w = rw (q, z) at f in let g' : write t v y b a ≡ w = cc in rw (← g') (rw (eqb-true s v z) at h))
+        (λ z.
+        let g : cond (φ (write t v y b a)) (some (write t v y b a)) (fed φ p s x) ≡ some w = own (eqb-true x y q) (eqb-true s v z) f in
+        byCases (φ (write t v y b a))
+        (λ d. let g' : some (write t v y b a) ≡ some w = rw d at g in let g'' : write t v y b a ≡ w = cc in rw (← g'') (rw (eqb-true s v z) at h))
+        (λ d. reader-fed s h p (tail-ends i) e r w (rw d at g)))
         (λ z. clash (rw (eqb-true x y q) at r)
-        (uncrossed-any (accessTo y) (readOf s y) p v s (read-of s y) (read-access s y) ((legal-ends o k i) .1 .uncrossed) (neq-sym s v z) e)))
-        (λ q. reader-fed s h p (tail-ends i) e r w (rw q at f))
+        (uncrossed-any (accessTo y) (readOf s y) p v s (read-of s y) (λ r d. access-to s y r (read-access s y r d)) (legal-ends o k i .1 .uncrossed) (neq-sym s v z) e)))
+        (λ q. reader-fed s h p (tail-ends i) e r w (sym (fed-still φ (write t v y b a) p s x q (λ u z. refl)) ∙ f))
+      where
+        own : x ≡ y → s ≡ v → fed φ (write t v y b a ∷ p) s x ≡ some w → cond (φ (write t v y b a)) (some (write t v y b a)) (fed φ p s x) ≡ some w
+        own q z f = rw (q, z) (sym (fed-own φ t v y b a p) ∙ (rw (q, z) at f))
     reader-fed s h (commit t v ∷ p) i e r w f =
         let m = legal-ends o k i in
+        let e' = or-false-right (eqb s v) _ e in
         let n : any (writeOf v x) p ≡ false =
         byCases (any (writeOf v x) p)
-        (λ q. absurd (excl o x s v (or-false-left (eqb s v) _ e) p (m .0) (or-false-right (eqb s v) _ e) (m .1 .closed) r q)) (λ q. q) in
-        reader-fed s h p (tail-ends i) (or-false-right (eqb s v) _ e) r w ((latest-by _ _ x p λ u q. rw (neq-sym v u (unlike o x v u p n q))) ∙ f)
-    reader-fed s h (abort t v ∷ p) i e r w f = reader-fed s h p (tail-ends i) (or-false-right (eqb s v) _ e) r w f
-    reader-fed s h (other t v ∷ p) i e r w f = reader-fed s h p (tail-ends i) e r w f
+        (λ q. absurd (excl o x s v (or-false-left (eqb s v) _ e) p (m .0) e' (m .1 .closed) (any-mono (readOf s x) (accessOf s x) (read-access s x) p r) q)) (λ q. q) in
+        reader-fed s h p (tail-ends i) e' r w (sym (fed-still φ (commit t v) p s x refl (λ u q. neq-sym v u (unlike o x v u p n q))) ∙ f)
+    reader-fed s h (abort t v ∷ p) i e r w f =
+        reader-fed s h p (tail-ends i) (or-false-right (eqb s v) _ e) r w (sym (fed-still φ (abort t v) p s x refl (λ u q. refl)) ∙ f)
+    reader-fed s h (other t v ∷ p) i e r w f = reader-fed s h p (tail-ends i) e r w (sym (fed-still φ (other t v) p s x refl (λ u q. refl)) ∙ f)
 
-    not-back : (t : Tag) (v : ℕ) (p : History) → Upto (abort t v ∷ p) j → surviving l j v ≡ false
-    not-back t v p i =
-        let e : committed j v ≡ false = after-end v c i (or-left (eqb v v) _ (eq-eqb v v refl)) ∙ not-committed o x v p ((legal-ends o k i) .1 .closed) in rw e
+    -- A kept write's before image is right in the copy. Here, and only here, it matters that the writer has read the item.
+    right-write : (t : Tag) (s : ℕ) (b a : Amount) (p : History) → Upto (write t s x b a ∷ p) j → any (readOf s x) p ≡ true → surviving φ l j s ≡ true
+        → b ≡ stand o (only (surviving φ l j) p) x
+    right-write t s b a p i r h =
+        let m = legal-ends o k i .1 in
+        m .right ∙ sym (stand-kept s p (tail-ends i) h (m .closed) (alone-write o x t s b a p m) (reader-fed s h p (tail-ends i) (m .closed) r))
 
-    pub stand-only : (p : History) → Upto p j → stand o (only (surviving l j) p) x ≡ val o x (latest (writeBy (surviving l j) x) p)
-    unfolding val
-    stand-only [] i = refl
-    stand-only (read t v y ∷ p) i = let ih = stand-only p (tail-ends i) in byCases (surviving l j v) (λ e. rw e ih) (λ e. rw e ih)
-    stand-only (write t v y b a ∷ p) i =
-        let ih = stand-only p (tail-ends i) in
-        byCases (surviving l j v) (λ e. rw e (byCases (eqb x y) (λ f. rw f) (λ f. rw f ih))) (λ e. rw (e, and-false (eqb x y)) ih)
-    stand-only (commit t v ∷ p) i = let ih = stand-only p (tail-ends i) in byCases (surviving l j v) (λ e. rw e ih) (λ e. rw e ih)
-    stand-only (abort t v ∷ p) i = rw (not-back t v p i) (stand-only p (tail-ends i))
-    stand-only (other t v ∷ p) i = let ih = stand-only p (tail-ends i) in byCases (surviving l j v) (λ e. rw e ih) (λ e. rw e ih)
+  ended-only : (p : History) (r : Op) → surviving φ l j (txOf r) ≡ true → ended (only (surviving φ l j) p) (txOf r) ≡ ended p (txOf r)
+  ended-only p r e = any-only (surviving φ l j) (endOf (txOf r)) (txOf r) (end-of (txOf r)) e p
 
-    right-write : (t : Tag) (s : ℕ) (b a : Amount) (p : History) → Upto (write t s x b a ∷ p) j → surviving l j s ≡ true → b ≡ stand o (only (surviving l j) p) x
-    right-write t s b a p i h =
-        let m = legal-ends o k i in
-        write-before o x t s b a p m (inv o x p (m .0))
-        ∙ sym (ap (val o x) (latest-within (sees p s) (surviving l j) x p (λ u w q.
-        byCases (eqb s u) (λ z. rw z)
-        (λ z. rw z (byCases (ended p u)
-        (λ y. sym (after-end u c (tail-ends i) y) ∙ and-left (committed j u) _ q)
-        (λ y. absurd (excl o x s u z p (m .0) (m .1 .closed) y (not-false _ (m .1 .sighted)) w))))) (reader-fed s h p (tail-ends i) (m .1 .closed) (not-false _ (m .1 .sighted)))))
-        ∙ sym (stand-only p (tail-ends i))
+  byOther-only : (f : Op → Bool) (p : History) (s : ℕ) → byOther f p s ≡ false → byOther f (only (surviving φ l j) p) s ≡ false
+  byOther-only f p s h = any-keep-false _ _ (λ r. surviving φ l j (txOf r)) (λ r e. rw (ended-only p r e)) p h
 
-    -- a kept transaction's read finds the same amount
-    pub read-stands : (t : Tag) (s : ℕ) (p : History) → Upto (read t s x ∷ p) j → surviving l j s ≡ true → stand o (only (surviving l j) p) x ≡ stand o p x
-    read-stands t s p i h =
-        let m = legal-ends o k i in
-        let alone-here : Alone o x p s = λ u n d. uncrossed-any (writeTo x) (writeOf u x) p s u (write-of u x) (write-to u x) (m .1 .uncrossed) n d in
-        stand-only p (tail-ends i)
-        ∙ ap (val o x) (latest-within (sees p s) (surviving l j) x p (λ u w q.
-        byCases (eqb s u) (λ z. rw z)
-        (λ z. rw z (byCases (ended p u)
-        (λ y. sym (after-end u c (tail-ends i) y) ∙ and-left (committed j u) _ q)
-        (λ y. clash w (alone-here u z y))))) (λ w e. fed-surviving l j c i h e))
-        ∙ sym (inv o x p (m .0) .amount s (m .1 .closed) alone-here)
-
-  ended-only : (p : History) (r : Op) → surviving l j (txOf r) ≡ true → ended (only (surviving l j) p) (txOf r) ≡ ended p (txOf r)
-  ended-only p r e = any-only (surviving l j) (endOf (txOf r)) (txOf r) (end-of (txOf r)) e p
-
-  byOther-only : (f : Op → Bool) (p : History) (s : ℕ) → byOther f p s ≡ false → byOther f (only (surviving l j) p) s ≡ false
-  byOther-only f p s h = any-keep-false _ _ (λ r. surviving l j (txOf r)) (λ r e. rw (ended-only p r e)) p h
-
-  legalStep-only : (r : Op) (p : History) → Upto (r ∷ p) j → surviving l j (txOf r) ≡ true → LegalStep o p r → LegalStep o (only (surviving l j) p) r
-  legalStep-only (read t s x) p i e f = record { closed = ended-only p (read t s x) e ∙ f .closed; uncrossed = byOther-only (writeTo x) p s (f .uncrossed); sighted = refl; right = tt }
-  legalStep-only (write t s x b a) p i e f =
+  legalStep-only : (r : Op) (p : History) → Upto (r ∷ p) j → blind p r ≡ false → surviving φ l j (txOf r) ≡ true → LegalStep o p r → LegalStep o (only (surviving φ l j) p) r
+  legalStep-only (read t s x) p i d e f = record { closed = ended-only p (read t s x) e ∙ f .closed; uncrossed = byOther-only (writeTo x) p s (f .uncrossed); right = tt }
+  legalStep-only (write t s x b a) p i d e f =
       record {
         closed = ended-only p (write t s x b a) e ∙ f .closed;
         uncrossed = byOther-only (accessTo x) p s (f .uncrossed);
-        sighted = rw (any-only (surviving l j) (readOf s x) s (read-of s x) e p) (f .sighted);
-        right = right-write x t s b a p i e;
+        right = right-write x t s b a p i (not-false _ d) e;
       }
-  legalStep-only (commit t s) p i e f = record { closed = ended-only p (commit t s) e ∙ f .closed; uncrossed = refl; sighted = refl; right = tt }
-  legalStep-only (abort t s) p i e f = record { closed = ended-only p (abort t s) e ∙ f .closed; uncrossed = refl; sighted = refl; right = tt }
-  legalStep-only (other t s) p i e f = record { closed = ended-only p (other t s) e ∙ f .closed; uncrossed = refl; sighted = refl; right = tt }
+  legalStep-only (commit t s) p i d e f = record { closed = ended-only p (commit t s) e ∙ f .closed; uncrossed = refl; right = tt }
+  legalStep-only (abort t s) p i d e f = record { closed = ended-only p (abort t s) e ∙ f .closed; uncrossed = refl; right = tt }
+  legalStep-only (other t s) p i d e f = record { closed = ended-only p (other t s) e ∙ f .closed; uncrossed = refl; right = tt }
 
-  legal-only : (p : History) → Upto p j → Legal o (only (surviving l j) p)
-  legal-only [] i = tt
-  legal-only (r ∷ p) i =
-      byCases (surviving l j (txOf r))
-      (λ e. rw e (legal-only p (tail-ends i), legalStep-only r p i e ((legal-ends o k i) .1)))
-      (λ e. rw e (legal-only p (tail-ends i)))
+  legal-only : Sighted j → (p : History) → Upto p j → Legal o (only (surviving φ l j) p)
+  legal-only g [] i = tt
+  legal-only g (r ∷ p) i =
+      byCases (surviving φ l j (txOf r))
+      (λ e. rw e (legal-only g p (tail-ends i), legalStep-only r p i (sighted-ends g i .1) e ((legal-ends o k i) .1)))
+      (λ e. rw e (legal-only g p (tail-ends i)))
 
-  pub survivors-legal : Legal o (survivors l j)
-  survivors-legal = legal-only j all
+  pub survivors-legal : Sighted j → Legal o (survivors φ l j)
+  survivors-legal g = legal-only g j all
 
-  -- every transaction of the copy has ended there
-  pub survivors-finished : {r : Op} {p : History} → Upto (r ∷ p) (survivors l j) → ended (survivors l j) (txOf r) ≡ true
-  survivors-finished {r} i =
-      let e = ends-surviving (surviving l j) j i in
-      any-only (surviving l j) (endOf (txOf r)) (txOf r) (end-of (txOf r)) e j ∙ committed-ended (txOf r) j (and-left (committed j (txOf r)) _ e)
+-- ---- rule 8
+
+blind-only : (k : ℕ → Bool) (p : History) (r : Op) → k (txOf r) ≡ true → blind p r ≡ false → blind (only k p) r ≡ false
+blind-only k p (read t s x) e f = f
+blind-only k p (write t s x b a) e f = rw (any-only k (readOf s x) s (read-of s x) e p) f
+blind-only k p (commit t s) e f = f
+blind-only k p (abort t s) e f = f
+blind-only k p (other t s) e f = f
+
+-- a transaction keeps its reads
+pub sighted-only : (k : ℕ → Bool) (p : History) → Sighted p → Sighted (only k p)
+sighted-only k [] g = tt
+sighted-only k (r ∷ p) g =
+    byCases (k (txOf r)) (λ e. rw e (sighted-only k p (g .0), blind-only k p r e (g .1))) (λ e. rw e (sighted-only k p (g .0)))
 
 -- ---- the opening amounts
 

@@ -68,61 +68,60 @@ afterOf (other t s) d = d
 
 -- ---- tests on one operation
 
+-- A test by kind: of reads by transaction and item, of writes by transaction, item and images, of commits and of aborts by transaction.
+-- Nothing else passes.
+abbrev pub byKind : (ℕ → ℕ → Bool) → (ℕ → ℕ → Amount → Amount → Bool) → (ℕ → Bool) → (ℕ → Bool) → Op → Bool
+byKind r w c a (read t s x) = r s x
+byKind r w c a (write t s x before after) = w s x before after
+byKind r w c a (commit t s) = c s
+byKind r w c a (abort t s) = a s
+byKind r w c a (other t s) = false
+
+-- what passes no read, no write, and no commit or abort
+abbrev pub unread : ℕ → ℕ → Bool
+unread s x = false
+
+abbrev pub unwritten : ℕ → ℕ → Amount → Amount → Bool
+unwritten s x b a = false
+
+abbrev pub never : ℕ → Bool
+never s = false
+
+-- transaction s at item x
+abbrev pub itemOf : ℕ → ℕ → ℕ → ℕ → Bool
+itemOf s x v y = eqb s v && eqb x y
+
 -- an operation of transaction s
 abbrev pub ofTx : ℕ → Op → Bool
 ofTx s r = eqb s (txOf r)
 
 abbrev pub readOf : ℕ → ℕ → Op → Bool
-readOf s x (read t v y) = eqb s v && eqb x y
-readOf s x (write t v y b a) = false
-readOf s x (commit t v) = false
-readOf s x (abort t v) = false
-readOf s x (other t v) = false
+readOf s x = byKind (itemOf s x) unwritten never never
 
 abbrev pub writeOf : ℕ → ℕ → Op → Bool
-writeOf s x (read t v y) = false
-writeOf s x (write t v y b a) = eqb s v && eqb x y
-writeOf s x (commit t v) = false
-writeOf s x (abort t v) = false
-writeOf s x (other t v) = false
+writeOf s x = byKind unread (λ v y b a. itemOf s x v y) never never
+
+-- a read or a write of item x by transaction s
+abbrev pub accessOf : ℕ → ℕ → Op → Bool
+accessOf s x = byKind (itemOf s x) (λ v y b a. itemOf s x v y) never never
 
 -- a write of item x
 abbrev pub writeTo : ℕ → Op → Bool
-writeTo x (read t v y) = false
-writeTo x (write t v y b a) = eqb x y
-writeTo x (commit t v) = false
-writeTo x (abort t v) = false
-writeTo x (other t v) = false
+writeTo x = byKind unread (λ v y b a. eqb x y) never never
 
 -- a read or a write of item x
 abbrev pub accessTo : ℕ → Op → Bool
-accessTo x (read t v y) = eqb x y
-accessTo x (write t v y b a) = eqb x y
-accessTo x (commit t v) = false
-accessTo x (abort t v) = false
-accessTo x (other t v) = false
+accessTo x = byKind (λ v y. eqb x y) (λ v y b a. eqb x y) never never
 
 abbrev pub commitOf : ℕ → Op → Bool
-commitOf s (read t v x) = false
-commitOf s (write t v x b a) = false
-commitOf s (commit t v) = eqb s v
-commitOf s (abort t v) = false
-commitOf s (other t v) = false
+commitOf s = byKind unread unwritten (eqb s) never
 
 abbrev pub abortOf : ℕ → Op → Bool
-abortOf s (read t v x) = false
-abortOf s (write t v x b a) = false
-abortOf s (commit t v) = false
-abortOf s (abort t v) = eqb s v
-abortOf s (other t v) = false
+abortOf s = byKind unread unwritten never (eqb s)
 
 -- an end of transaction s (01: commit or rollback)
 abbrev pub endOf : ℕ → Op → Bool
-endOf s (read t v x) = false
-endOf s (write t v x b a) = false
-endOf s (commit t v) = eqb s v
-endOf s (abort t v) = eqb s v
-endOf s (other t v) = false
+endOf s = byKind unread unwritten (eqb s) (eqb s)
 
 -- ---- transactions after p
 
@@ -188,29 +187,13 @@ nextIn j i s = tagIn (first (laterOf i s) j)
 -- ---- record counts by kind (01: tally)
 
 abbrev pub isRead : Op → Bool
-isRead (read t s x) = true
-isRead (write t s x b a) = false
-isRead (commit t s) = false
-isRead (abort t s) = false
-isRead (other t s) = false
+isRead = byKind (λ s x. true) unwritten never never
 
 abbrev pub isWrite : Op → Bool
-isWrite (read t s x) = false
-isWrite (write t s x b a) = true
-isWrite (commit t s) = false
-isWrite (abort t s) = false
-isWrite (other t s) = false
+isWrite = byKind unread (λ s x b a. true) never never
 
 abbrev pub isCommit : Op → Bool
-isCommit (read t s x) = false
-isCommit (write t s x b a) = false
-isCommit (commit t s) = true
-isCommit (abort t s) = false
-isCommit (other t s) = false
+isCommit = byKind unread unwritten (λ s. true) never
 
 abbrev pub isAbort : Op → Bool
-isAbort (read t s x) = false
-isAbort (write t s x b a) = false
-isAbort (commit t s) = false
-isAbort (abort t s) = true
-isAbort (other t s) = false
+isAbort = byKind unread unwritten never (λ s. true)

@@ -8,25 +8,46 @@ use Prim.Native.Nat.{ℕ, suc}
 use lib.ListN.{length}
 use lib.Dec.{eqb}
 use Rattle.lists.specs.Search.{keep, latest, member}
-use Rattle.model.specs.History.{Op, History, Amount, Tag, read, write, commit, abort, other, txOf, committed}
+use Rattle.model.specs.History.{Op, History, Amount, Tag, read, write, commit, abort, other, txOf, byKind, unread, never, committed}
+
+-- ---- record numbers
+
+-- the operation with another record number
+abbrev pub retag : Tag → Op → Op
+retag i (read t s x) = read i s x
+retag i (write t s x b a) = write i s x b a
+retag i (commit t s) = commit i s
+retag i (abort t s) = abort i s
+retag i (other t s) = other i s
+
+-- a test that does not look at the record number
+abbrev pub Untagged : (Op → Bool) → Type 0
+Untagged f = (i : Tag) (r : Op) → f (retag i r) ≡ f r
+
+-- ---- which writes may feed
+
+-- Document 01: every write. This is the one test that the calls and the statements give to what follows; only its laws look into it.
+unfoldable pub feeds : Op → Bool
+feeds = byKind unread (λ s x b a. true) never never
+
+-- what such a test has to meet: a write that may not feed leaves the amount as it was
+pub record Feeding (φ : Op → Bool) : Type 0 where
+  pub untagged : Untagged φ
+  pub still : (t : Tag) (s x : ℕ) (b a : Amount) → φ (write t s x b a) ≡ false → b ≡ a
 
 -- ---- fed (the field: reads-from)
 
 -- a write of item x by a transaction of the set g
 abbrev pub writeBy : (ℕ → Bool) → ℕ → Op → Bool
-writeBy g x (read t v y) = false
-writeBy g x (write t v y b a) = eqb x y && g v
-writeBy g x (commit t v) = false
-writeBy g x (abort t v) = false
-writeBy g x (other t v) = false
+writeBy g x = byKind unread (λ v y b a. eqb x y && g v) never never
+
+-- one that may feed
+abbrev pub feedBy : (Op → Bool) → (ℕ → Bool) → ℕ → Op → Bool
+feedBy φ g x w = writeBy g x w && φ w
 
 -- the transactions whose writes may feed a read by s after p: s itself and those already committed
 abbrev pub sees : History → ℕ → ℕ → Bool
 sees p s v = eqb s v || committed p v
-
--- 01: fed: the write that feeds a read of x by s after p, the highest of them; none: the opening amount
-abbrev pub fed : History → ℕ → ℕ → Option Op
-fed p s x = latest (writeBy (sees p s) x) p
 
 -- ---- the taken-back set
 
@@ -35,25 +56,10 @@ pub data Upto (p : History) : History → Type 0 where
   all : Upto p p
   more : {q : Op} {j : History} → Upto p j → Upto p (q ∷ j)
 
--- a set that contains the bad list, and every committed transaction with a read fed by a write of a member
-pub record Closed (bad : List ℕ) (j : History) (S : ℕ → Type 0) : Type 0 where
-  pub lists : (s : ℕ) → member s bad ≡ true → S s
-  pub draws : {t : Tag} {s x : ℕ} {p : History} {w : Op} → Upto (read t s x ∷ p) j → committed j s ≡ true → fed p s x ≡ some w
-      → S (txOf w) → S s
-
 -- whether there is a feeding write, and by a transaction of the list
 abbrev pub fedBy : List ℕ → Option Op → Bool
 fedBy l none = false
 fedBy l (some w) = member (txOf w) l
-
--- The set as one pass over the records computes it: the listed transactions, and each with a read fed by one of them.
-abbrev pub reached : List ℕ → History → List ℕ
-reached bad [] = bad
-reached bad (read t s x ∷ p) = let m : List ℕ = reached bad p in cond (fedBy m (fed p s x)) (s ∷ m) m
-reached bad (write t s x b a ∷ p) = reached bad p
-reached bad (commit t s ∷ p) = reached bad p
-reached bad (abort t s ∷ p) = reached bad p
-reached bad (other t s ∷ p) = reached bad p
 
 -- the committed transactions in a list, and those not in it
 abbrev pub committedIn : List ℕ → History → ℕ → Bool
@@ -62,13 +68,34 @@ committedIn m j s = committed j s && member s m
 abbrev pub committedOut : List ℕ → History → ℕ → Bool
 committedOut m j s = committed j s && not (member s m)
 
--- 01: taken back
-abbrev pub undone : List ℕ → History → ℕ → Bool
-undone bad j = committedIn (reached bad j) j
+-- φ w: the write w may feed
+module _ (φ : Op → Bool) where
+  -- 01: fed: the write that feeds a read of x by s after p, the highest of them; none: the opening amount
+  unfoldable pub fed : History → ℕ → ℕ → Option Op
+  fed p s x = latest (feedBy φ (sees p s) x) p
 
--- 01: kept
-abbrev pub surviving : List ℕ → History → ℕ → Bool
-surviving bad j = committedOut (reached bad j) j
+  -- a set that contains the bad list, and every committed transaction with a read fed by a write of a member
+  pub record Closed (bad : List ℕ) (j : History) (S : ℕ → Type 0) : Type 0 where
+    pub lists : (s : ℕ) → member s bad ≡ true → S s
+    pub draws : {t : Tag} {s x : ℕ} {p : History} {w : Op} → Upto (read t s x ∷ p) j → committed j s ≡ true → fed p s x ≡ some w
+        → S (txOf w) → S s
+
+  -- The set as one pass over the records computes it: the listed transactions, and each with a read fed by one of them.
+  abbrev pub reached : List ℕ → History → List ℕ
+  reached bad [] = bad
+  reached bad (read t s x ∷ p) = let m : List ℕ = reached bad p in cond (fedBy m (fed p s x)) (s ∷ m) m
+  reached bad (write t s x b a ∷ p) = reached bad p
+  reached bad (commit t s ∷ p) = reached bad p
+  reached bad (abort t s ∷ p) = reached bad p
+  reached bad (other t s ∷ p) = reached bad p
+
+  -- 01: taken back
+  abbrev pub undone : List ℕ → History → ℕ → Bool
+  undone bad j = committedIn (reached bad j) j
+
+  -- 01: kept
+  abbrev pub surviving : List ℕ → History → ℕ → Bool
+  surviving bad j = committedOut (reached bad j) j
 
 -- ---- removal
 
@@ -82,28 +109,21 @@ without g p = only (λ s. not (g s)) p
 
 -- ---- the copy and the table left
 
--- the operation with another record number
-abbrev pub retag : Tag → Op → Op
-retag i (read t s x) = read i s x
-retag i (write t s x b a) = write i s x b a
-retag i (commit t s) = commit i s
-retag i (abort t s) = abort i s
-retag i (other t s) = other i s
-
 -- 01: renumbered: record numbers count from 1
 abbrev pub renumber : History → History
 renumber [] = []
 renumber (r ∷ p) = retag (suc (length p)) r ∷ renumber p
 
--- just the kept transactions' records, in order
-abbrev pub survivors : List ℕ → History → History
-survivors bad j = only (surviving bad j) j
+module _ (φ : Op → Bool) where
+  -- just the kept transactions' records, in order
+  abbrev pub survivors : List ℕ → History → History
+  survivors bad j = only (surviving φ bad j) j
 
--- 01: the copy, as a history: renumbered
-abbrev pub repaired : List ℕ → History → History
-repaired bad j = renumber (survivors bad j)
+  -- 01: the copy, as a history: renumbered
+  abbrev pub repaired : List ℕ → History → History
+  repaired bad j = renumber (survivors bad j)
 
--- an item that begins at d, with the after images of the writes by transactions of k set in record order
+-- an item that begins at d, with the after images of all writes by transactions of k set in record order
 abbrev pub replayed : (ℕ → Bool) → Amount → History → ℕ → Amount
 replayed k d [] x = d
 replayed k d (read t s y ∷ p) x = replayed k d p x

@@ -1,19 +1,18 @@
 -- The copy: one record stored behind those before it, and the whole.
 -- Assumes nothing.
 use mathlib.Core.Path.{_≡_, refl, sym, _∙_, ap}
-use mathlib.Core.Bool.{Bool, true, false, cond}
+use mathlib.Core.Bool.{true, false, cond}
 use mathlib.Core.List.{List, [], _∷_, _++_, append-nil}
 use Prim.Native.Nat.{ℕ, zero, suc, _+_, _-_, _*_, _≤_, _<_}
 use native.Mathlib.Omega.{arith}
 use native.Mathlib.Numerals.{add-one}
-use lib.Dec.{eqb}
-use lib.ListN.{length, getD, length-append}
+use lib.ListN.{length, getD}
 use mir.Syntax.{w32}
 use mir.Val.{toZ, ofZ, SFits}
 use mir.ValLaws.{toZ-ofZ}
-use borrow.Author.Tests.{eqb-true, eq-eqb, ne-eqb}
+use borrow.Author.Tests.{ne-eqb}
 use borrow.Rule.Slice.PartMut.{putMid}
-use Rattle.lists.specs.Tables.{store}
+use Rattle.lists.specs.Tables.{store, coded}
 use Rattle.lists.proofs.BoolLaws.{byCases}
 use Rattle.lists.proofs.TablesLaws.{part-stored, store-store, length-store}
 use Rattle.format.specs.declared.Record.{Record}
@@ -21,11 +20,9 @@ use Rattle.format.specs.Layout.{recordAt, bytesOf}
 use Rattle.format.proofs.LayoutLaws.{length-bytesOf}
 use Rattle.journal.specs.Journal.{txIn, records}
 use Rattle.journal.specs.Copy.{headWith, linkedTo, encoded}
-use Rattle.journal.proofs.Records.{records-suc, records-zero}
 use Rattle.journal.proofs.Encoded.{length-encoded}
-use Rattle.trace.specs.Codes.{coded}
-use Rattle.repair.specs.Copying.{rank, Ranked, moved, movedAll, copyBytes, copyWith, copyStep}
-use Rattle.repair.proofs.RankLaws.{rank-zero, rank-suc, rank-kept, rank-le}
+use Rattle.repair.specs.Copying.{rank, Ranked, moved, movedAll, copyBytes, copyWith, copyStep, copyFrom}
+use Rattle.repair.proofs.RankLaws.{rank-kept, rank-le}
 
 -- ---- one record
 
@@ -75,7 +72,7 @@ module _ (b fates ranks : List ℕ) where
   unfolding copyBytes
   bytes-other i e = ap encoded (moved-suc i) ∙ rw e
 
-  pub copy-start : (out : List ℕ) → out ≡ store 20 (copyBytes b fates ranks 0) out
+  copy-start : (out : List ℕ) → out ≡ store 20 (copyBytes b fates ranks 0) out
   unfolding store
   copy-start out = rw bytes-zero (whole 20 out)
     where
@@ -92,40 +89,48 @@ module _ (b fates ranks : List ℕ) where
     fits : 20 + length (copyBytes b fates ranks i) ≤ length old
     fits = omega (arith, length-bytes i, within)
 
-    -- there is room for the next
-    pub copy-room : (out : List ℕ) → out ≡ store 20 (copyBytes b fates ranks i) old → 20 * getD ranks (i + 1) 0 + 20 ≤ length out
-    copy-room out e =
-        let l : length out ≡ length old = ap length e ∙ length-store 20 (copyBytes b fates ranks i) old fits in
-        let z : getD ranks (i + 1) 0 ≡ rank (coded 1 fates) b (suc i) = ap (λ k. getD ranks k 0) (add-one i) ∙ rank-here in
-        omega (arith, r .at n (omega arith), rank-le (coded 1 fates) b (suc i) n h)
-
-    pub copy-length : (out : List ℕ) → out ≡ store 20 (copyBytes b fates ranks i) old → length out ≡ length old
-    copy-length out e = ap length e ∙ length-store 20 (copyBytes b fates ranks i) old fits
-
-    pub copy-more : (out new : List ℕ) → out ≡ store 20 (copyBytes b fates ranks i) old → new ≡ copyStep b fates ranks (i + 1) out → new ≡ store 20 (copyBytes b fates ranks (i + 1)) old
+    copy-more : (out : List ℕ) → out ≡ store 20 (copyBytes b fates ranks i) old → copyStep b fates ranks (suc i) out ≡ store 20 (copyBytes b fates ranks (suc i)) old
     unfolding copyStep
-    copy-more out new e q =
-        q ∙ rw add-one
-        (byCases (coded 1 fates (txIn (recordAt b (suc i))))
+    copy-more out e =
+        byCases (coded 1 fates (txIn (recordAt b (suc i))))
         (λ c. let p : 20 * getD ranks (suc i) 0 ≡ 20 + length (copyBytes b fates ranks i) = omega (arith, rank-here, rank-kept (coded 1 fates) b i c, length-bytes i) in
         rw (c, bytes-kept i c, p, e) (store-store 20 (copyBytes b fates ranks i) old fits (bytesOf (moved ranks (recordAt b (suc i))))))
-        (λ c. rw (c, bytes-other i c) e))
+        (λ c. rw (c, bytes-other i c) e)
 
-pub copied-done : (b fates ranks old out : List ℕ) (n i : ℕ) → i ≤ n → n ≤ i → out ≡ store 20 (copyBytes b fates ranks i) old → out ≡ store 20 (copyBytes b fates ranks n) old
-copied-done b fates ranks old out n i h l e = let z : n ≡ i = omega arith in rw z e
+  -- there is room for the next
+  pub copy-room : (n i : ℕ) (out old : List ℕ) → Ranked b fates n ranks → i < n → 20 * getD ranks n 0 + 20 ≤ length old → length out ≡ length old → 20 * getD ranks (i + 1) 0 + 20 ≤ length out
+  copy-room n i out old r h f e =
+      let z : getD ranks (i + 1) 0 ≡ rank (coded 1 fates) b (suc i) = ap (λ k. getD ranks k 0) (add-one i) ∙ r .at (suc i) h in
+      omega (arith, r .at n (omega arith), rank-le (coded 1 fates) b (suc i) n h)
+
+  -- ---- the pass
+
+  pub pass-start : (out : List ℕ) → out ≡ copyFrom b fates ranks 0 out
+  unfolding copyFrom
+  pass-start out = refl
+
+  pub pass-step : (i : ℕ) (old out new : List ℕ) → out ≡ copyFrom b fates ranks i old → new ≡ copyStep b fates ranks (i + 1) out → new ≡ copyFrom b fates ranks (i + 1) old
+  unfolding copyFrom
+  pass-step i old out new e q = q ∙ rw (add-one, e)
+
+  pub pass-done : (n i : ℕ) (old out : List ℕ) → i ≤ n → n ≤ i → out ≡ copyFrom b fates ranks i old → out ≡ copyFrom b fates ranks n old
+  pass-done n i old out h l e = let z : n ≡ i = omega arith in rw z e
+
+  -- the records that it writes stand behind the head
+  passed : (n : ℕ) → Ranked b fates n ranks → (old : List ℕ) → 20 * getD ranks n 0 + 20 ≤ length old → (i : ℕ) → i ≤ n → copyFrom b fates ranks i old ≡ store 20 (copyBytes b fates ranks i) old
+  unfolding copyFrom
+  passed n r old f zero h = copy-start old
+  passed n r old f (suc i) h = copy-more n r i (omega arith) old f (copyFrom b fates ranks i old) (passed n r old f i (omega arith))
 
 -- ---- the head, and the records behind it
 
-pub head-room : (k : ℕ) (out part : List ℕ) → k + 20 ≤ length out → length part ≡ 20 → k + 20 ≤ length (putMid 0 20 out part)
-head-room k out part h e =
-    rw (part-stored 0 20 part out e) (omega (arith, length-store 0 part out (omega arith)))
-
-pub copied-all : (b fates ranks out part new : List ℕ) (n m k : ℕ) → 20 * getD ranks n 0 + 20 ≤ length out → k ≡ getD ranks n 0 → part ≡ bytesOf (headWith k m) → new ≡ store 20 (copyBytes b fates ranks n) (putMid 0 20 out part)
+pub copied-all : (b fates ranks out part new : List ℕ) (n m k : ℕ) → Ranked b fates n ranks → 20 * getD ranks n 0 + 20 ≤ length out → k ≡ getD ranks n 0 → part ≡ bytesOf (headWith k m) → new ≡ copyFrom b fates ranks n (putMid 0 20 out part)
     → new ≡ store 0 (copyWith b fates ranks n m) out
 unfolding copyWith
-copied-all b fates ranks out part new n m k h c p q =
-    let l : length (bytesOf (headWith (getD ranks n 0) m)) ≡ 20 = length-bytesOf (headWith (getD ranks n 0) m) in
-    let z : 20 ≡ 0 + length (bytesOf (headWith (getD ranks n 0) m)) = omega arith in
-    q ∙ rw (p, c, part-stored 0 20 (bytesOf (headWith (getD ranks n 0) m)) out l)
-    (ap (λ a. store a (copyBytes b fates ranks n) (store 0 (bytesOf (headWith (getD ranks n 0) m)) out)) z
-    ∙ store-store 0 (bytesOf (headWith (getD ranks n 0) m)) out (omega arith) (copyBytes b fates ranks n))
+copied-all b fates ranks out part new n m k r h c p q =
+    let head : List ℕ = bytesOf (headWith (getD ranks n 0) m) in
+    let l : length head ≡ 20 = length-bytesOf (headWith (getD ranks n 0) m) in
+    let z : 20 ≡ 0 + length head = omega arith in
+    let f : length (store 0 head out) ≡ length out = length-store 0 head out (omega arith) in
+    q ∙ rw (p, c, part-stored 0 20 head out l, passed b fates ranks n r (store 0 head out) (omega arith) n (omega arith))
+    (ap (λ a. store a (copyBytes b fates ranks n) (store 0 head out)) z ∙ store-store 0 head out (omega arith) (copyBytes b fates ranks n))

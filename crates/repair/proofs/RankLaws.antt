@@ -1,26 +1,25 @@
 -- Ranks: how many of the first records are kept. The next of a kept record in the copy is the rank of its next.
 -- Assumes nothing.
 use mathlib.Core.Path.{_≡_, refl, sym, _∙_, ap}
-use mathlib.Core.Bool.{Bool, true, false, cond, not, _&&_, _||_}
-use mathlib.Core.List.{List, [], _∷_}
-use mathlib.Core.Option.{Option, none, some}
-use Prim.Native.Nat.{ℕ, zero, suc, _+_, _*_, _≤_, _<_}
+use mathlib.Core.Bool.{Bool, true, false, cond, _||_}
+use mathlib.Core.List.{List, _∷_}
+use Prim.Native.Nat.{ℕ, zero, suc, _+_, _≤_, _<_}
 use native.Mathlib.Omega.{arith}
 use native.Mathlib.Numerals.{add-one}
 use lib.Dec.{eqb, ltb}
 use lib.ListN.{length, getD, set, replicate, length-replicate}
-use borrow.Author.Tests.{eqb-true, eqb-false, eq-eqb, ne-eqb, lt-ltb, le-ltb, ltb-true, ltb-false}
-use Rattle.lists.specs.Search.{any, first, orElse}
+use borrow.Author.Tests.{eqb-true, eqb-false, ne-eqb, lt-ltb, le-ltb, ltb-true, ltb-false}
+use Rattle.lists.specs.Tables.{coded}
+use Rattle.lists.specs.Search.{any, first}
 use Rattle.lists.proofs.BoolLaws.{byCases, clash}
 use Rattle.lists.proofs.SearchLaws.{first-none, first-old}
-use Rattle.format.specs.declared.Record.{Record}
 use Rattle.format.specs.Layout.{recordAt}
-use Rattle.model.specs.History.{Op, History, txOf, tagOf, tagIn, laterOf, nextIn}
+use Rattle.model.specs.History.{Op, History, tagOf, tagIn, laterOf, nextIn}
 use Rattle.model.specs.Undo.{only, renumber, retag}
 use Rattle.model.proofs.Renumber.{txOf-retag, tagOf-retag}
 use Rattle.journal.specs.Journal.{txIn, opOf, history}
 use Rattle.journal.proofs.Records.{txOf-opOf, tagOf-opOf, history-zero, history-suc}
-use Rattle.trace.specs.Codes.{coded, partly}
+use Rattle.trace.specs.Codes.{partly}
 use Rattle.repair.specs.Copying.{rank, Ranked}
 use Rattle.trace.proofs.CodesLaws.{partly-start, partly-step, partly-at, length-partly}
 

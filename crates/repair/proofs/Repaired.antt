@@ -1,28 +1,26 @@
--- The copy, its size and the table left are document 01's, where the codes are the statuses.
+-- The copy, its size and the table left are those of the transactions with code 1.
 -- Assumes nothing.
 use mathlib.Core.Path.{_≡_, refl, sym, _∙_, ap}
-use mathlib.Core.Bool.{Bool, true, false, cond}
-use mathlib.Core.List.{List, [], _∷_, _++_}
+use mathlib.Core.Bool.{true}
+use mathlib.Core.List.{List}
 use Prim.Native.Nat.{ℕ, zero, suc, _+_, _*_, _≤_, _<_}
 use native.Mathlib.Omega.{arith}
 use lib.ListN.{length, getD}
-use Rattle.lists.specs.Tables.{tabulate}
+use Rattle.lists.specs.Tables.{coded}
 use Rattle.lists.proofs.BoolLaws.{byCases}
-use Rattle.format.specs.declared.Record.{Record}
-use Rattle.format.specs.Layout.{recordAt, bytesOf}
+use Rattle.format.specs.Layout.{recordAt}
 use Rattle.model.specs.History.{History, Amount, laterOf, nextIn}
-use Rattle.model.specs.Undo.{surviving, only, renumber, repaired, replayed}
+use Rattle.model.specs.Undo.{only, renumber}
 use Rattle.model.proofs.Extension.{first-tag}
-use Rattle.journal.specs.Journal.{count, items, txIn, records, history, whole, amountAt}
-use Rattle.journal.specs.Copy.{headWith, linkedTo, encoded, copied, copyRecords, journalOf, copy}
-use Rattle.journal.specs.Calls.{openingAt, tableLeft, statuses}
+use Rattle.journal.specs.Inputs.{lent}
+use Rattle.journal.specs.Journal.{count, items, txIn, records, history, whole}
+use Rattle.journal.specs.Copy.{unchanged, copiedBy, copied, recordsKept, journalOf, copyKept}
+use Rattle.journal.specs.Results.{openingAt, tableKept}
 use Rattle.journal.proofs.Records.{length-history}
 use Rattle.journal.proofs.Encoded.{length-journalOf}
 use Rattle.journal.proofs.Unrefused.{chained-next, history-numbered}
 use Rattle.rules.specs.Arrays.{Ready}
 use Rattle.rules.proofs.Found.{passed-right}
-use Rattle.trace.specs.Codes.{coded}
-use Rattle.trace.proofs.UndoSet.{coded-surviving}
 use Rattle.repair.specs.Copying.{rank, Ranked, moved, movedAll, copyBytes, copyWith}
 use Rattle.repair.specs.Restoring.{leftAfter}
 use Rattle.repair.proofs.RankLaws.{rank-kept, next-rank}
@@ -53,7 +51,7 @@ module _ (b : List ℕ) (n : ℕ) (k : Ready b n) (c : n ≡ count b) where
         ∙ sym (next-rank (coded 1 fates) b (suc i) s e n)
 
     moved-copied : (i : ℕ) → i ≤ n → movedAll (coded 1 fates) ranks (records b i) ≡ copied (coded 1 fates) kept (records b i)
-    unfolding records movedAll copied moved
+    unfolding records movedAll copiedBy moved
     moved-copied zero h = refl
     moved-copied (suc i) h =
         let ih = moved-copied i (omega arith) in
@@ -63,24 +61,21 @@ module _ (b : List ℕ) (n : ℕ) (k : Ready b n) (c : n ≡ count b) where
         rw (e, l, ih, next-moved i h e))
         (λ e. rw e ih)
 
-    module _ (bad : List ℕ) (f : fates ≡ statuses bad (history b n)) where
-      copy-records : movedAll (coded 1 fates) ranks (records b n) ≡ copyRecords bad b
-      unfolding copyRecords kept
-      copy-records =
-          moved-copied n (omega arith)
-          ∙ rw (← c, whole-is, coded-surviving b n k bad fates f)
+    kept-records : movedAll (coded 1 fates) ranks (records b n) ≡ recordsKept unchanged (coded 1 fates) b
+    unfolding recordsKept kept
+    kept-records = moved-copied n (omega arith) ∙ rw (← c, whole-is)
 
-      rank-all : getD ranks n 0 ≡ length (copyRecords bad b)
-      rank-all = r .at n (omega arith) ∙ sym (length-moved b fates ranks n) ∙ ap length copy-records
+    rank-all : getD ranks n 0 ≡ length (recordsKept unchanged (coded 1 fates) b)
+    rank-all = r .at n (omega arith) ∙ sym (length-moved b fates ranks n) ∙ ap length kept-records
 
-      pub copy-whole : (m : ℕ) → m ≡ items b → copyWith b fates ranks n m ≡ copy bad b
-      unfolding copyWith copyBytes copy journalOf
-      copy-whole m e = rw (e, rank-all, copy-records)
+    pub copy-whole : (m : ℕ) → m ≡ items b → copyWith b fates ranks n m ≡ copyKept unchanged (coded 1 fates) b
+    unfolding copyWith copyBytes copyKept journalOf
+    copy-whole m e = rw (e, rank-all, kept-records)
 
-      pub copy-size : length (copy bad b) ≡ 20 * (getD ranks n 0 + 1)
-      unfolding copy
-      copy-size = length-journalOf (items b) (copyRecords bad b) ∙ rw rank-all
+    pub copy-size : length (copyKept unchanged (coded 1 fates) b) ≡ 20 * (getD ranks n 0 + 1)
+    unfolding copyKept
+    copy-size = length-journalOf (items b) (recordsKept unchanged (coded 1 fates) b) ∙ rw rank-all
 
-  pub table-left : (bad fates : List ℕ) (t : List Amount) → fates ≡ statuses bad (history b n) → leftAfter (coded 1 fates) (history b n) t ≡ tableLeft bad b t
-  unfolding leftAfter tableLeft openingAt
-  table-left bad fates t f = rw (coded-surviving b n k bad fates f, whole-is)
+  pub table-kept : (fates : List ℕ) (t : List Amount) → leftAfter (coded 1 fates) (history b n) t ≡ tableKept (coded 1 fates) (lent b t)
+  unfolding leftAfter tableKept openingAt
+  table-kept fates t = rw whole-is

@@ -1,38 +1,35 @@
 -- The table left: what one record does to it, and the table after n records.
 -- Assumes nothing.
 use mathlib.Core.Path.{_≡_, refl, sym, _∙_, ap}
-use mathlib.Core.Bool.{Bool, true, false, cond, not, _&&_, _||_, and-false}
+use mathlib.Core.Bool.{Bool, true, false, cond, not}
 use mathlib.Core.List.{List, [], _∷_}
-use mathlib.Core.Option.{Option, none, some}
-use Prim.Native.Nat.{ℕ, zero, suc, _+_, _*_, _≤_, _<_}
+use Prim.Native.Nat.{ℕ, zero, suc, _+_, _≤_, _<_}
 use native.Mathlib.Omega.{arith}
 use native.Mathlib.Numerals.{add-one}
 use lib.Dec.{eqb}
 use lib.IntN.{pos}
-use lib.ListN.{length, getD, set, replicate, length-set}
+use lib.ListN.{length, getD, set, replicate}
 use lib.Seq.{set-set}
 use mir.Syntax.{w32}
 use mir.Val.{toZ, ofZ, SFits}
 use mir.ValLaws.{toZ-ofZ}
-use borrow.Author.Tests.{eqb-true, eqb-false, eq-eqb, ne-eqb}
-use Rattle.lists.specs.Search.{any, first}
-use Rattle.lists.specs.Tables.{tabulate}
+use borrow.Author.Tests.{eqb-true, eq-eqb, ne-eqb}
+use Rattle.lists.specs.Search.{any}
+use Rattle.lists.specs.Tables.{coded}
 use Rattle.lists.proofs.BoolLaws.{byCases, or-false-left, or-false-right}
 use Rattle.lists.proofs.SearchLaws.{first-none, first-old}
-use Rattle.lists.proofs.TablesLaws.{length-tabulate, getD-tabulate, tabulate-ext, tabulate-getD}
+use Rattle.lists.proofs.TablesLaws.{tabulate-ext, tabulate-getD}
 use Rattle.format.specs.declared.Record.{Record}
 use Rattle.format.specs.Layout.{recordAt}
-use Rattle.model.specs.History.{Op, History, Amount, read, write, commit, abort, other, writeTo, beforeIn, initial}
+use Rattle.model.specs.History.{Op, History, Amount, read, write, commit, abort, other, writeTo, initial}
 use Rattle.model.specs.Undo.{replayed}
-use Rattle.journal.specs.Journal.{items, txIn, opOf, history, amountAt}
-use Rattle.journal.specs.Refusals.{malformed}
+use Rattle.journal.specs.Journal.{txIn, opOf, history, amountAt}
 use Rattle.journal.proofs.Records.{history-zero, history-suc}
 use Rattle.rules.specs.Arrays.{Ready}
 use Rattle.rules.proofs.ArraysLaws.{getD-of, tabulate-zeros, tabulate-same, op-write}
 use Rattle.rules.proofs.Found.{passed-right}
 use Rattle.rules.proofs.RuleLaws.{item-write}
-use Rattle.trace.specs.Codes.{coded}
-use Rattle.repair.specs.Restoring.{seenOf, leftAfter, openedAt, tableWrite, tableAfter, seenAfter}
+use Rattle.repair.specs.Restoring.{seenOf, leftAfter, openedAt, tableWrite, tableAfter, seenAfter, seenFrom, tableFrom}
 use Rattle.trace.proofs.CodesLaws.{tabulate-put}
 
 -- ---- one write
@@ -91,21 +88,13 @@ module _ (i : ℕ) (r q : Record) (h : r ≡ q) (fates seen : List ℕ) (t : Lis
 
 -- ---- after n records
 
-pub seen-start : (b : List ℕ) → replicate 1024 0 ≡ seenOf (history b 0)
+seen-start : (b : List ℕ) → replicate 1024 0 ≡ seenOf (history b 0)
 unfolding seenOf
 seen-start b = rw (history-zero b) (tabulate-zeros _ 1024 (λ j. refl))
 
-pub seen-count : (p : History) (l : List ℕ) → l ≡ seenOf p → 1024 ≡ length l
-unfolding seenOf
-seen-count p l e = sym (ap length e ∙ length-tabulate {A = ℕ} (λ x. cond (any (writeTo x) p) 1 0) 0 1024)
-
-pub left-start : (k : ℕ → Bool) (b : List ℕ) (t : List Amount) → t ≡ leftAfter k (history b 0) t
+left-start : (k : ℕ → Bool) (b : List ℕ) (t : List Amount) → t ≡ leftAfter k (history b 0) t
 unfolding leftAfter
 left-start k b t = rw (history-zero b) (sym (tabulate-getD t (pos 0)))
-
-pub length-left : (k : ℕ → Bool) (p : History) (t : List Amount) → length (leftAfter k p t) ≡ length t
-unfolding leftAfter
-length-left k p t = length-tabulate _ 0 (length t)
 
 seen-op : (p : History) (r : Op) → seenAfter r (seenOf p) ≡ seenOf (r ∷ p)
 unfolding seenAfter seenOf
@@ -210,17 +199,45 @@ module _ (b : List ℕ) (n i : ℕ) (k : Ready b n) (h : i < n) where
       three r false false true = tt
       three r false false false = tt
 
-  module _ (seen : List ℕ) (e : seen ≡ seenOf (history b i)) where
-    pub seen-step : (l : List ℕ) → l ≡ seenAfter (opOf (i + 1) (recordAt b (i + 1))) seen → l ≡ seenOf (history b (i + 1))
-    seen-step l q = let z = add-one i in q ∙ rw (z, e, history-suc b i) (seen-op (history b i) (opOf (suc i) (recordAt b (suc i))))
+-- ---- the pass
 
-    pub left-step : (fates : List ℕ) (t m l : List Amount) → m ≡ leftAfter (coded 1 fates) (history b i) t → l ≡ tableAfter fates (opOf (i + 1) (recordAt b (i + 1))) seen m
-        → l ≡ leftAfter (coded 1 fates) (history b (i + 1)) t
-    left-step fates t m l f q =
-        let z = add-one i in q ∙ rw (z, e, f, history-suc b i) (left-op fates t (history b i) (opOf (suc i) (recordAt b (suc i))) narrow-at)
+pub seen-first : (b seen : List ℕ) → seen ≡ seenFrom (history b 0) seen
+unfolding seenFrom
+seen-first b seen = rw history-zero
 
-pub left-done : (k : ℕ → Bool) (b : List ℕ) (n i : ℕ) (t m : List Amount) → i ≤ n → n ≤ i → m ≡ leftAfter k (history b i) t → m ≡ leftAfter k (history b n) t
-left-done k b n i t m h l e = let z : n ≡ i = omega arith in rw z e
+pub table-first : (b fates seen : List ℕ) (t : List Amount) → t ≡ tableFrom fates (history b 0) seen t
+unfolding tableFrom
+table-first b fates seen t = rw history-zero
 
-pub left-length : (k : ℕ → Bool) (b : List ℕ) (i : ℕ) (t m : List Amount) → m ≡ leftAfter k (history b i) t → length m ≡ length t
-left-length k b i t m e = rw (e, length-left k (history b i) t)
+module _ (b : List ℕ) (i : ℕ) (seen₀ seen : List ℕ) (e : seen ≡ seenFrom (history b i) seen₀) where
+  pub seen-more : (l : List ℕ) → l ≡ seenAfter (opOf (i + 1) (recordAt b (i + 1))) seen → l ≡ seenFrom (history b (i + 1)) seen₀
+  unfolding seenFrom
+  seen-more l q = let z = add-one i in q ∙ rw (z, e, history-suc b i)
+
+  pub table-more : (fates : List ℕ) (t m l : List Amount) → m ≡ tableFrom fates (history b i) seen₀ t → l ≡ tableAfter fates (opOf (i + 1) (recordAt b (i + 1))) seen m
+      → l ≡ tableFrom fates (history b (i + 1)) seen₀ t
+  unfolding tableFrom
+  table-more fates t m l f q = let z = add-one i in q ∙ rw (z, e, f, history-suc b i)
+
+pub seen-done : (b seen₀ seen : List ℕ) (n i : ℕ) → i ≤ n → n ≤ i → seen ≡ seenFrom (history b i) seen₀ → seen ≡ seenFrom (history b n) seen₀
+seen-done b seen₀ seen n i h l e = let z : n ≡ i = omega arith in rw z e
+
+pub table-done : (b fates seen₀ : List ℕ) (n i : ℕ) (t m : List Amount) → i ≤ n → n ≤ i → m ≡ tableFrom fates (history b i) seen₀ t → m ≡ tableFrom fates (history b n) seen₀ t
+table-done b fates seen₀ n i t m h l e = let z : n ≡ i = omega arith in rw z e
+
+-- from no marks at all it is the table left
+
+seen-all : (b : List ℕ) (n : ℕ) → seenFrom (history b n) (replicate 1024 0) ≡ seenOf (history b n)
+unfolding seenFrom
+seen-all b zero = rw history-zero (seen-start b ∙ rw history-zero)
+seen-all b (suc n) = rw (history-suc b n) (ap (seenAfter (opOf (suc n) (recordAt b (suc n)))) (seen-all b n) ∙ seen-op (history b n) (opOf (suc n) (recordAt b (suc n))))
+
+left-all : (b fates : List ℕ) (n i : ℕ) (t : List Amount) → Ready b n → i ≤ n → tableFrom fates (history b i) (replicate 1024 0) t ≡ leftAfter (coded 1 fates) (history b i) t
+unfolding tableFrom
+left-all b fates n zero t k h = rw history-zero (left-start (coded 1 fates) b t ∙ rw history-zero)
+left-all b fates n (suc i) t k h =
+    rw (history-suc b i)
+    (rw (seen-all b i, left-all b fates n i t k (omega arith)) (left-op fates t (history b i) (opOf (suc i) (recordAt b (suc i))) (narrow-at b n i k (omega arith))))
+
+pub left-done : (b fates : List ℕ) (n : ℕ) (t m : List Amount) → Ready b n → m ≡ tableFrom fates (history b n) (replicate 1024 0) t → m ≡ leftAfter (coded 1 fates) (history b n) t
+left-done b fates n t m k e = e ∙ left-all b fates n n t k (omega arith)

@@ -5,12 +5,11 @@ use mathlib.Core.Bool.{Bool, cond}
 use mathlib.Core.List.{List, [], _∷_, _++_}
 use Prim.Native.Nat.{ℕ, zero, suc, _+_, _*_, _≤_}
 use lib.ListN.{length, getD}
-use Rattle.lists.specs.Tables.{store}
+use Rattle.lists.specs.Tables.{store, coded}
 use Rattle.format.specs.declared.Record.{Record}
 use Rattle.format.specs.Layout.{recordAt, bytesOf}
 use Rattle.journal.specs.Journal.{txIn, records}
 use Rattle.journal.specs.Copy.{headWith, linkedTo, encoded}
-use Rattle.trace.specs.Codes.{coded}
 
 -- how many of records 1 to n are of transactions of k
 unfoldable pub rank : (ℕ → Bool) → List ℕ → ℕ → ℕ
@@ -43,3 +42,8 @@ copyWith b fates ranks n m = bytesOf (headWith (getD ranks n 0) m) ++ copyBytes 
 unfoldable pub copyStep : List ℕ → List ℕ → List ℕ → ℕ → List ℕ → List ℕ
 copyStep b fates ranks i out =
     let r : Record = recordAt b i in cond (coded 1 fates (txIn r)) (store (20 * getD ranks i 0) (bytesOf (moved ranks r)) out) out
+
+-- what records 1 to i write
+unfoldable pub copyFrom : List ℕ → List ℕ → List ℕ → ℕ → List ℕ → List ℕ
+copyFrom b fates ranks zero out = out
+copyFrom b fates ranks (suc i) out = copyStep b fates ranks (suc i) (copyFrom b fates ranks i out)

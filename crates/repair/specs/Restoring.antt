@@ -1,16 +1,15 @@
--- The table left in one pass: each item's opening amount at its first write, then the after images of the kept writes.
+-- The table left in one pass: each item's opening amount at its first write, then the after images of the kept writes. The pass goes on
+-- from any table and any marks of the items written until then.
 -- Assumes nothing.
 use mathlib.Core.Bool.{Bool, cond}
-use mathlib.Core.List.{List}
+use mathlib.Core.List.{List, [], _∷_}
 use Prim.Native.Nat.{ℕ}
-use lib.Dec.{eqb}
-use lib.ListN.{length, getD, set}
+use lib.ListN.{length, set}
 use Rattle.lists.specs.Search.{any}
-use Rattle.lists.specs.Tables.{tabulate}
+use Rattle.lists.specs.Tables.{tabulate, coded}
 use Rattle.model.specs.History.{Op, History, Amount, read, write, commit, abort, other, writeTo, initial}
 use Rattle.model.specs.Undo.{replayed}
 use Rattle.journal.specs.Journal.{amountAt}
-use Rattle.trace.specs.Codes.{coded}
 
 -- 1 for each item that was written
 unfoldable pub seenOf : History → List ℕ
@@ -43,3 +42,13 @@ seenAfter (write t s x b a) seen = set seen x 1
 seenAfter (commit t s) seen = seen
 seenAfter (abort t s) seen = seen
 seenAfter (other t s) seen = seen
+
+-- ---- what the operations of p do, from the marks and the table before them
+
+unfoldable pub seenFrom : History → List ℕ → List ℕ
+seenFrom [] seen = seen
+seenFrom (r ∷ p) seen = seenAfter r (seenFrom p seen)
+
+unfoldable pub tableFrom : List ℕ → History → List ℕ → List Amount → List Amount
+tableFrom fates [] seen t = t
+tableFrom fates (r ∷ p) seen t = tableAfter fates r (seenFrom p seen) (tableFrom fates p seen t)

@@ -4,13 +4,12 @@ ghost use mathlib.Core.Bool.{cond};
 ghost use Prim.Native.Nat.{_+_, _*_, _≤_, _<_};
 ghost use lib.Dec.{eqb};
 ghost use lib.ListN.{length, getD, set};
-ghost use Rattle.lists.specs.Tables.{number, store};
+ghost use Rattle.lists.specs.Tables.{number, store, coded};
 ghost use Rattle.format.specs.Layout.{recordAt};
 ghost use Rattle.journal.specs.Journal.{opOf, history};
 ghost use Rattle.rules.specs.Arrays.{Ready};
-ghost use Rattle.trace.specs.Codes.{coded};
-ghost use Rattle.repair.specs.Copying.{Ranked, copyBytes, copyWith, copyStep};
-ghost use Rattle.repair.specs.Restoring.{leftAfter, openedAt, tableWrite, tableAfter, seenAfter};
+ghost use Rattle.repair.specs.Copying.{Ranked, copyWith, copyStep, copyFrom};
+ghost use Rattle.repair.specs.Restoring.{leftAfter, openedAt, tableWrite, tableAfter, seenAfter, tableFrom, seenFrom};
 use format::Key;
 use format::Lsn;
 use format::Record;
@@ -18,16 +17,10 @@ use format::TransactionId;
 use format::put_record;
 use format::record_at;
 use format::transaction_at;
-use trace::code_at;
-use trace::set_code;
-use trace::wide;
-
-// A number in a working array; 0 behind its end.
-pub fn number_at(list: &[u32], i: usize) -> u32
-    ensures { λ r. ⌜ r ≡ getD (now (list .entry)) i 0 ⌝ }
-{
-    if i < list.len() { list[i] } else { 0 }
-}
+use lists::code_at;
+use lists::number_at;
+use lists::set_code;
+use lists::wide;
 
 // One more, if the code is v.
 fn raised(count: u32, code: u8, v: u8) -> u32
@@ -99,10 +92,10 @@ fn copy_record(journal: &[u8], n: usize, fates: &[u8], ranks: &[u32], out: &mut 
     put_record(&mut out[at..end], moved);
 }
 
-// The kept records behind the copy's head.
+// The kept records of 1 to n, each at the place of its rank.
 fn copy_records(journal: &[u8], n: usize, fates: &[u8], ranks: &[u32], out: &mut [u8])
     requires { ⌜ (20 * n + 20 ≤ length (now journal)) × (n ≤ 3200) × Ranked (now journal) (now fates) n (now ranks) × (20 * getD (now ranks) n 0 + 20 ≤ length (now out)) ⌝ }
-    ensures { λ _. ⌜ now (out .exit) ≡ store 20 (copyBytes (now (journal .entry)) (now (fates .entry)) (now (ranks .entry)) n) (now (out .entry)) ⌝ }
+    ensures { λ _. ⌜ now (out .exit) ≡ copyFrom (now (journal .entry)) (now (fates .entry)) (now (ranks .entry)) n (now (out .entry)) ⌝ }
 {
     let mut i = 0;
     while i < n {
@@ -192,17 +185,25 @@ fn restore_record(journal: &[u8], n: usize, fates: &[u8], seen: &mut [u8], table
     }
 }
 
+// Records 1 to n in the table, from any table and any marks of the items written until then.
+pub fn restore_records(journal: &[u8], n: usize, fates: &[u8], seen: &mut [u8], table: &mut [i32])
+    requires { ⌜ (20 * n + 20 ≤ length (now journal)) × (n ≤ 3200) ⌝ }
+    ensures { λ _. ⌜ (now (seen .exit) ≡ seenFrom (history (now (journal .entry)) n) (now (seen .entry))) × (now (table .exit) ≡ tableFrom (now (fates .entry)) (history (now (journal .entry)) n) (now (seen .entry)) (now (table .entry))) ⌝ }
+{
+    let mut i = 0;
+    while i < n {
+        restore_record(journal, i, fates, seen, table);
+        i += 1;
+    }
+}
+
 // The table with the opening amount of each item, then the writes of surviving transactions in order.
 pub fn restore(journal: &[u8], n: usize, fates: &[u8], table: &mut [i32])
     requires { ⌜ Ready (now journal) n ⌝ }
     ensures { λ _. ⌜ now (table .exit) ≡ leftAfter (coded 1 (now (fates .entry))) (history (now (journal .entry)) n) (now (table .entry)) ⌝ }
 {
     let mut seen = [0u8; 1024];
-    let mut i = 0;
-    while i < n {
-        restore_record(journal, i, fates, &mut seen, table);
-        i += 1;
-    }
+    restore_records(journal, n, fates, &mut seen, table);
 }
 
 // The fates into the status list.

@@ -5,8 +5,9 @@ use mathlib.Core.Bool.{true, false}
 use mathlib.Core.List.{List, [], _∷_, _++_, map}
 use Prim.Native.Nat.{ℕ, zero, suc, _+_, _-_, _*_, _/_, _≤_, _<_}
 use native.Mathlib.Nat.{zero-add}
+use native.Mathlib.Numerals.{add-one}
 use native.Mathlib.Omega.{arith}
-use lib.ListN.{length, take, drop, getD, set, length-append}
+use lib.ListN.{length, take, drop, getD, set, length-set}
 use borrow.Author.Tests.{eq-eqb, ne-eqb}
 use mir.Syntax.{w32}
 use mir.Val.{SFits}
@@ -16,12 +17,12 @@ use Rattle.lists.proofs.TablesLaws.{tabulate-zero, tabulate-suc, tabulate-last,
 use Rattle.format.specs.Bytes.{value, entry, entries, amount, bits}
 use Rattle.format.proofs.BytesLaws.{amount-bits}
 use Rattle.model.specs.History.{Amount, sameAmount}
-use Rattle.model.proofs.Opening.{same-refl, same-eq}
+use Rattle.model.proofs.Amounts.{same-refl, same-eq}
 use Rattle.journal.specs.Journal.{amountAt}
 use Rattle.text.specs.Lines.{undoneLine, changeLine}
 use Rattle.report.specs.Output.{undoneIn, changeIn, amounts, transactions}
-use Rattle.text.specs.Puts.{Put}
-use Rattle.text.proofs.PutsLaws.{set-store, store-none, shorter, room, put-none, put-put}
+use Rattle.text.specs.Puts.{Fits, Put}
+use Rattle.text.proofs.PutsLaws.{set-store, store-none, put-none, fits-front, fits-behind, put-behind}
 
 -- ---- one line, or none
 
@@ -51,46 +52,62 @@ module _ (old new : List Amount) (x : ℕ) where
 
 -- ---- line after line
 
--- the lines so far and the next need no more room than all
-pub room-next : (f : ℕ → List ℕ) (b k n at : ℕ) {m : ℕ} → k < n → at + length (each f b n) ≤ m → at + length (each f b k ++ f (b + k)) ≤ m
-room-next f b k n at h r =
+-- of n lines the first k, the next, and the rest
+each-next : (f : ℕ → List ℕ) (b k n : ℕ) → k < n → each f b n ≡ each f b k ++ f (b + k) ++ each f (b + suc k) (n - suc k)
+each-next f b k n h =
     let e : n ≡ suc k + (n - suc k) = omega arith in
-    let l : length (each f b n) ≡ length (each f b k ++ f (b + k)) + length (each f (b + suc k) (n - suc k)) =
-    ap (λ j. length (each f b j)) e ∙ ap length (each-add f b (suc k) (n - suc k))
-    ∙ length-append (each f b (suc k)) (each f (b + suc k) (n - suc k)) ∙ ap (λ v. length v + length (each f (b + suc k) (n - suc k))) (each-last f b k) in
-    omega arith
+    ap (each f b) e ∙ each-add f b (suc k) (n - suc k) ∙ ap (λ v. v ++ each f (b + suc k) (n - suc k)) (each-last f b k)
 
 module _ (f : ℕ → List ℕ) (b at : ℕ) (l : List ℕ) where
   pub lines-none : Put at (each f b 0) l l at
   lines-none = rw (each-zero f b) (put-none at l)
 
   -- line i, the kth from b on
-  module _ (k i n : ℕ) (e : i ≡ b + k) (h : k < n) (fits : at + length (each f b n) ≤ length l) {m : List ℕ} {end : ℕ} (p : Put at (each f b k) l m end) where
-    fits-next : at + length (each f b k ++ f i) ≤ length l
-    fits-next = rw e (room-next f b k n at h fits)
+  module _ (k i n : ℕ) (e : i ≡ b + k) (h : k < n) (fits : Fits at (each f b n) l) {m : List ℕ} {end : ℕ} (p : Put at (each f b k) l m end) where
+    fits-next : Fits at (each f b k ++ f i) l
+    fits-next = fits-front at (each f b k ++ f i) _ l (rw (each-next f b k n h, ← e) at fits)
 
-    pub lines-room : end + length (f i) ≤ length m
-    lines-room = room (f i) fits-next p
+    pub lines-room : Fits end (f i) m
+    lines-room = fits-behind at (each f b k) (f i) l fits-next p
 
     pub lines-more : {o : List ℕ} {last : ℕ} → Put end (f i) m o last → Put at (each f b (suc k)) l o last
-    lines-more q = rw (each-last f b k, ← e) (put-put (shorter at (each f b k) (f i) fits-next) p q)
+    lines-more q = rw (each-last f b k, ← e) (put-behind at (each f b k) (f i) l fits-next p q)
 
 -- ---- a list filled from the front
 
-module _ {A : Type 0} (f : ℕ → A) (l : List A) where
-  pub filled-none : store 0 (tabulate f 0 0) l ≡ l
-  filled-none = rw tabulate-zero (store-none 0 l)
+-- of a list l that gets f 0, f 1, .. in its first n places: m, when i of them are there
+pub record Filling {A : Type 0} (f : ℕ → A) (l : List A) (n : ℕ) (m : List A) (i : ℕ) : Type 0 where
+  pub below : i ≤ n
+  pub holds : m ≡ store 0 (tabulate f 0 i) l
+  pub size : length m ≡ length l
 
-  pub length-filled : (i : ℕ) → i ≤ length l → length (store 0 (tabulate f 0 i) l) ≡ length l
+module _ {A : Type 0} (f : ℕ → A) (l : List A) where
+  length-filled : (i : ℕ) → i ≤ length l → length (store 0 (tabulate f 0 i) l) ≡ length l
   length-filled i h = length-store 0 (tabulate f 0 i) l (omega (arith, length-tabulate f 0 i))
 
-  pub filled-more : (i : ℕ) → i < length l → set (store 0 (tabulate f 0 i) l) i (f i) ≡ store 0 (tabulate f 0 (suc i)) l
+  filled-more : (i : ℕ) → i < length l → set (store 0 (tabulate f 0 i) l) i (f i) ≡ store 0 (tabulate f 0 (suc i)) l
   filled-more i h =
       let n : 0 + length (tabulate f 0 i) ≡ i = omega (arith, length-tabulate f 0 i) in
       set-store i (f i) _ (omega (arith, length-filled i (omega arith)))
       ∙ ap (λ k. store k (f i ∷ []) (store 0 (tabulate f 0 i) l)) (sym n)
       ∙ store-store 0 (tabulate f 0 i) l (omega arith) (f i ∷ [])
       ∙ ap (λ v. store 0 v l) (ap (λ k. tabulate f 0 i ++ f k ∷ []) (sym (zero-add i)) ∙ sym (tabulate-last f 0 i))
+
+  module _ (n : ℕ) where
+    pub filling-start : Filling f l n l 0
+    filling-start = record { below = omega arith; holds = sym (rw tabulate-zero (store-none 0 l)); size = refl }
+
+    module _ {m : List A} {i : ℕ} (p : Filling f l n m i) where
+      pub filling-step : {v : A} → n ≤ length l → i < n → v ≡ f i → Filling f l n (set m i v) (i + 1)
+      filling-step {v} h k e =
+          record {
+            below = omega arith;
+            holds = rw (e, p .holds, add-one) (filled-more i (omega arith));
+            size = length-set m i v ∙ p .size;
+          }
+
+      pub filling-end : n ≤ i → m ≡ store 0 (tabulate f 0 n) l
+      filling-end h = let e : i ≡ n = omega (arith, p .below) in rw e at (p .holds)
 
 -- ---- the files
 

@@ -1,18 +1,20 @@
 // The report of a take-back, written into a buffer.
 ghost use mathlib.Core.Path.{_≡_};
-ghost use Prim.Native.Nat.{_+_, _-_, _/_, _≤_, _<_};
+ghost use mathlib.Core.List.{[], _∷_, flatten};
+ghost use Prim.Native.Nat.{_-_, _/_, _≤_, _<_};
 ghost use lib.ListN.{length, take};
-ghost use Rattle.lists.specs.Tables.{each, store};
+ghost use Rattle.lists.specs.Tables.{store};
+ghost use Rattle.journal.specs.Inputs.{lent};
 ghost use Rattle.journal.specs.Calls as calls;
 ghost use Rattle.journal.specs.Journal.{count};
 ghost use Rattle.journal.specs.Reasons.{numberOf, placeOf};
-ghost use Rattle.text.specs.Lines.{refusedLine};
-ghost use Rattle.report.specs.Output.{undoneIn, changeIn, countsOf, lines, linesOf, amounts, transactions, reportOf};
+ghost use Rattle.text.specs.Lines.{endLine, refusedLine};
+ghost use Rattle.report.specs.Output.{undoneIn, undoneLines, changeIn, changeLines, countsOf, lines, linesOf, amounts, transactions, reportOf};
 ghost use Rattle.report.specs.Printed.{readOf, Prints, Within};
-ghost use Rattle.undo.specs.Answers.{answerOf};
-ghost use Rattle.text.specs.Puts.{Put};
+ghost use Rattle.deliver.specs.Answers.{answerOf};
+ghost use Rattle.text.specs.Puts.{Fits, Put};
+use deliver::Undone;
 use journal::Reason;
-use undo::Undone;
 
 // What printing answers: the report's length; or the buffer is too short for some report.
 pub enum Printed {
@@ -22,7 +24,7 @@ pub enum Printed {
 
 // The line of transaction s, if its status is 2 (document 01: mark 2, taken back).
 fn put_undone_in(out: &mut [u8], at: usize, status: &[u8], s: usize) -> usize
-    requires { ⌜ (s < length (now status)) × (at + length (undoneIn (now status) s) ≤ length (now out)) ⌝ }
+    requires { ⌜ (s < length (now status)) × Fits at (undoneIn (now status) s) (now out) ⌝ }
     ensures { λ r. ⌜ Put at (undoneIn (now (status .entry)) s) (now (out .entry)) (now (out .exit)) r ⌝ }
 {
     let code = status[s];
@@ -35,8 +37,8 @@ fn put_undone_in(out: &mut [u8], at: usize, status: &[u8], s: usize) -> usize
 
 // The lines of all transactions with status 2.
 fn put_all_undone(out: &mut [u8], at: usize, status: &[u8]) -> usize
-    requires { ⌜ (length (now status) ≡ 1025) × (at + length (each (undoneIn (now status)) 1 1024) ≤ length (now out)) ⌝ }
-    ensures { λ r. ⌜ Put at (each (undoneIn (now (status .entry))) 1 1024) (now (out .entry)) (now (out .exit)) r ⌝ }
+    requires { ⌜ (length (now status) ≡ 1025) × Fits at (undoneLines (now status)) (now out) ⌝ }
+    ensures { λ r. ⌜ Put at (undoneLines (now (status .entry))) (now (out .entry)) (now (out .exit)) r ⌝ }
 {
     let mut end = at;
     let mut s = 1;
@@ -49,7 +51,7 @@ fn put_all_undone(out: &mut [u8], at: usize, status: &[u8]) -> usize
 
 // The line of item x, if its amount is another.
 fn put_change_in(out: &mut [u8], at: usize, old: &[i32], new: &[i32], x: usize) -> usize
-    requires { ⌜ (x < length (now old)) × (x < length (now new)) × (at + length (changeIn (now old) (now new) x) ≤ length (now out)) ⌝ }
+    requires { ⌜ (x < length (now old)) × (x < length (now new)) × Fits at (changeIn (now old) (now new) x) (now out) ⌝ }
     ensures { λ r. ⌜ Put at (changeIn (now (old .entry)) (now (new .entry)) x) (now (out .entry)) (now (out .exit)) r ⌝ }
 {
     let before = old[x];
@@ -63,8 +65,8 @@ fn put_change_in(out: &mut [u8], at: usize, old: &[i32], new: &[i32], x: usize) 
 
 // The lines of all items whose amount is another.
 fn put_changes(out: &mut [u8], at: usize, old: &[i32], new: &[i32]) -> usize
-    requires { ⌜ (length (now old) ≡ length (now new)) × (at + length (each (changeIn (now old) (now new)) 0 (length (now old))) ≤ length (now out)) ⌝ }
-    ensures { λ r. ⌜ Put at (each (changeIn (now (old .entry)) (now (new .entry))) 0 (length (now (old .entry)))) (now (out .entry)) (now (out .exit)) r ⌝ }
+    requires { ⌜ (length (now old) ≡ length (now new)) × Fits at (changeLines (now old) (now new)) (now out) ⌝ }
+    ensures { λ r. ⌜ Put at (changeLines (now (old .entry)) (now (new .entry))) (now (out .entry)) (now (out .exit)) r ⌝ }
 {
     let mut end = at;
     let mut x = 0;
@@ -103,56 +105,46 @@ fn read_transactions(file: &[u8], bad: &mut [u16]) -> usize
     n
 }
 
-// The number and the place of a refusal.
-fn number_of(why: Reason) -> u64
-    ensures { λ r. ⌜ r ≡ numberOf why ⌝ }
-{
-    match why {
-        Reason::Truncated => 1,
-        Reason::Header => 2,
-        Reason::TableLength => 3,
-        Reason::Malformed(_) => 4,
-        Reason::Chain(_) => 5,
-        Reason::Closed(_) => 6,
-        Reason::Conflict(_) => 7,
-        Reason::Blind(_) => 8,
-        Reason::BeforeImage(_) => 9,
-        Reason::FinalState(_) => 10,
-        Reason::Active(_) => 11,
-        Reason::Unknown(_) => 12,
-        Reason::StatusLength => 13,
-        Reason::Capacity => 14,
-        Reason::Counts => 15,
-    }
-}
-
-fn place_of(why: Reason) -> u64
-    ensures { λ r. ⌜ r ≡ placeOf why ⌝ }
-{
-    match why {
-        Reason::Truncated => 0,
-        Reason::Header => 0,
-        Reason::TableLength => 0,
-        Reason::Malformed(i) => i.0 as u64,
-        Reason::Chain(i) => i.0 as u64,
-        Reason::Closed(i) => i.0 as u64,
-        Reason::Conflict(i) => i.0 as u64,
-        Reason::Blind(i) => i.0 as u64,
-        Reason::BeforeImage(i) => i.0 as u64,
-        Reason::FinalState(x) => x.0 as u64,
-        Reason::Active(s) => s.0 as u64,
-        Reason::Unknown(k) => k as u64,
-        Reason::StatusLength => 0,
-        Reason::Capacity => 0,
-        Reason::Counts => 0,
-    }
-}
-
 // The copy's records, by its bytes.
 fn copied_records(bytes: u64) -> u64
     ensures { λ r. ⌜ r ≡ bytes / 20 - 1 ⌝ }
 {
     if bytes < 20 { 0 } else { bytes / 20 - 1 }
+}
+
+// The last lines: the changed items, and the counts.
+fn put_changes_and_end(
+    out: &mut [u8],
+    at: usize,
+    old: &[i32],
+    new: &[i32],
+    surviving: u64,
+    undone: u64,
+    aborted: u64,
+) -> usize
+    requires { ⌜ (length (now old) ≡ length (now new)) × Fits at (flatten (changeLines (now old) (now new) ∷ endLine surviving undone aborted ∷ [])) (now out) ⌝ }
+    ensures { λ r. ⌜ Put at (flatten (changeLines (now (old .entry)) (now (new .entry)) ∷ endLine surviving undone aborted ∷ [])) (now (out .entry)) (now (out .exit)) r ⌝ }
+{
+    let a = put_changes(out, at, old, new);
+    text::put_end(out, a, surviving, undone, aborted)
+}
+
+// The lines behind the first.
+fn put_body(
+    out: &mut [u8],
+    at: usize,
+    status: &[u8],
+    old: &[i32],
+    new: &[i32],
+    surviving: u64,
+    undone: u64,
+    aborted: u64,
+) -> usize
+    requires { ⌜ (length (now status) ≡ 1025) × (length (now old) ≡ length (now new)) × Fits at (flatten (undoneLines (now status) ∷ changeLines (now old) (now new) ∷ endLine surviving undone aborted ∷ [])) (now out) ⌝ }
+    ensures { λ r. ⌜ Put at (flatten (undoneLines (now (status .entry)) ∷ changeLines (now (old .entry)) (now (new .entry)) ∷ endLine surviving undone aborted ∷ [])) (now (out .entry)) (now (out .exit)) r ⌝ }
+{
+    let a = put_all_undone(out, at, status);
+    put_changes_and_end(out, a, old, new, surviving, undone, aborted)
 }
 
 // The lines of an accepted take-back.
@@ -167,24 +159,22 @@ fn put_accepted(
     aborted: u64,
     bytes: u64,
 ) -> usize
-    requires { ⌜ (length (now status) ≡ 1025) × (length (now old) ≡ length (now new)) × (0 + length (lines n (now old) (now new) (now status) (calls.Answer.accepted (countsOf surviving undone aborted bytes))) ≤ length (now out)) ⌝ }
+    requires { ⌜ (length (now status) ≡ 1025) × (length (now old) ≡ length (now new)) × Fits 0 (lines n (now old) (now new) (now status) (calls.Answer.accepted (countsOf surviving undone aborted bytes))) (now out) ⌝ }
     ensures { λ r. ⌜ Put 0 (lines n (now (old .entry)) (now (new .entry)) (now (status .entry)) (calls.Answer.accepted (countsOf surviving undone aborted bytes))) (now (out .entry)) (now (out .exit)) r ⌝ }
 {
     let m = copied_records(bytes);
     let a = text::put_counts(out, 0, n, m);
-    let b = put_all_undone(out, a, status);
-    let c = put_changes(out, b, old, new);
-    text::put_end(out, c, surviving, undone, aborted)
+    put_body(out, a, status, old, new, surviving, undone, aborted)
 }
 
 // The line of a refused take-back.
 fn put_reason(out: &mut [u8], why: Reason) -> usize
-    requires { ⌜ 0 + length (refusedLine (numberOf why) (placeOf why)) ≤ length (now out) ⌝ }
+    requires { ⌜ Fits 0 (refusedLine (numberOf why) (placeOf why)) (now out) ⌝ }
     ensures { λ r. ⌜ Put 0 (refusedLine (numberOf why) (placeOf why)) (now (out .entry)) (now (out .exit)) r ⌝ }
 {
-    let number = number_of(why);
-    let place = place_of(why);
-    text::put_refused(out, 0, number, place)
+    let number = journal::number(why);
+    let place = journal::place(why);
+    text::put_refused(out, 0, number as u64, place)
 }
 
 // The record count in a journal's head; 0, if it has none.
@@ -207,7 +197,7 @@ fn put_answer(
     old: &[i32],
     new: &[i32],
 ) -> usize
-    requires { ⌜ (length (now status) ≡ 1025) × (length (now old) ≡ length (now new)) × (0 + length (lines n (now old) (now new) (now status) (answerOf answer)) ≤ length (now out)) ⌝ }
+    requires { ⌜ (length (now status) ≡ 1025) × (length (now old) ≡ length (now new)) × Fits 0 (lines n (now old) (now new) (now status) (answerOf answer)) (now out) ⌝ }
     ensures { λ r. ⌜ Put 0 (lines n (now (old .entry)) (now (new .entry)) (now (status .entry)) (answerOf answer)) (now (out .entry)) (now (out .exit)) r ⌝ }
 {
     match answer {
@@ -237,7 +227,7 @@ fn report_on(
     out: &mut [u8],
 ) -> usize
     requires { ⌜ (now new ≡ now old) × (length (now status) ≡ 1025) × (100000 ≤ length (now out)) ⌝ }
-    ensures { λ r. ⌜ Put 0 (linesOf (now (journal .entry)) (now (old .entry)) (calls.undo (now (journal .entry)) (now (old .entry)) (now (bad .entry)) (now (status .entry)) (now (copy .entry)))) (now (out .entry)) (now (out .exit)) r ⌝ }
+    ensures { λ r. ⌜ Put 0 (linesOf (lent (now (journal .entry)) (now (old .entry))) (calls.undo (lent (now (journal .entry)) (now (old .entry))) (now (bad .entry)) (now (status .entry)) (now (copy .entry)))) (now (out .entry)) (now (out .exit)) r ⌝ }
 {
     let answer = undo::undo(journal, new, bad, status, copy);
     let n = count_in(journal);

@@ -13,17 +13,17 @@ use borrow.Author.Tests.{ne-eqb}
 use mir.Syntax.{w32}
 use mir.Val.{toZ, ofZ, SFits}
 use mir.ValLaws.{toZ-ofZ}
-use Rattle.lists.proofs.SearchLaws.{first-some}
+use Rattle.lists.proofs.SearchLaws.{any-latest, latest-passes, first-some}
 use Rattle.format.specs.declared.Record.{Record}
 use Rattle.format.specs.Layout.{recordAt}
 use Rattle.model.specs.History.{Op, History, Amount, Tag, txOf, tagIn, writeOf, writeTo, beforeOf, afterOf, beforeIn, standing}
-use Rattle.model.proofs.Strict.{write-to}
+use Rattle.model.proofs.Ends.{write-to}
 use Rattle.model.proofs.Opening.{Passing}
 use Rattle.journal.specs.Journal.{txIn, opOf, history}
 use Rattle.journal.proofs.Records.{by-kind, txOf-opOf}
 use Rattle.rules.specs.Recent.{endCode, lastWrite, baseWrite}
 use Rattle.rules.specs.Arrays.{Ready, endsOf, writesOf, basesOf}
-use Rattle.rules.proofs.Recent.{any-latest, latest-passes, own-write, base-first, standing-last}
+use Rattle.rules.proofs.Recent.{own-write, base-first, standing-last}
 use Rattle.rules.proofs.Found.{base-found, found-none, found-bound, found-some, passing-history}
 use Rattle.rules.proofs.ArraysLaws.{ends-at, bases-at, length-ends, length-bases}
 use Rattle.rules.proofs.ReadersLaws.{last-some, last-range}

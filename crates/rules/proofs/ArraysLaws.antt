@@ -115,7 +115,7 @@ pub reads-start : replicate 1024 0 ≡ readsOf []
 unfolding readsOf
 reads-start = tabulate-zeros _ 1024 (λ j. refl)
 
--- ---- one operation more
+-- ---- one operation more: the arrays that it changes
 
 module _ (p : History) (t : Tag) (s : ℕ) where
   pub ends-commit : s < 1025 → set (endsOf p) s 1 ≡ endsOf (commit t s ∷ p)
@@ -126,30 +126,10 @@ module _ (p : History) (t : Tag) (s : ℕ) where
   unfolding endsOf
   ends-abort h = tabulate-set (endCode p) (endCode (abort t s ∷ p)) 1025 s 2 h (rw (eq-eqb s s refl)) (λ j q. rw q)
 
-  pub ends-read : (x : ℕ) → endsOf p ≡ endsOf (read t s x ∷ p)
-  unfolding endsOf
-  ends-read x = tabulate-same _ _ 1025 (λ j. refl)
-
-  pub ends-write : (x : ℕ) (b a : Amount) → endsOf p ≡ endsOf (write t s x b a ∷ p)
-  unfolding endsOf
-  ends-write x b a = tabulate-same _ _ 1025 (λ j. refl)
-
   pub writes-write : (x : ℕ) (b a : Amount) → x < 1024 → set (writesOf p) x t ≡ writesOf (write t s x b a ∷ p)
   unfolding writesOf
   writes-write x b a h =
       tabulate-set (λ y. tagIn (lastWrite p y)) (λ y. tagIn (lastWrite (write t s x b a ∷ p) y)) 1024 x t h (rw (eq-eqb x x refl)) (λ j q. rw q)
-
-  pub writes-read : (x : ℕ) → writesOf p ≡ writesOf (read t s x ∷ p)
-  unfolding writesOf
-  writes-read x = tabulate-same _ _ 1024 (λ j. refl)
-
-  pub writes-commit : writesOf p ≡ writesOf (commit t s ∷ p)
-  unfolding writesOf
-  writes-commit = tabulate-same _ _ 1024 (λ j. refl)
-
-  pub writes-abort : writesOf p ≡ writesOf (abort t s ∷ p)
-  unfolding writesOf
-  writes-abort = tabulate-same _ _ 1024 (λ j. refl)
 
   -- the transaction wrote the item last: its first write stays
   pub bases-again : (x : ℕ) (b a : Amount) → byTx (lastWrite p x) s ≡ true → basesOf p ≡ basesOf (write t s x b a ∷ p)
@@ -162,18 +142,6 @@ module _ (p : History) (t : Tag) (s : ℕ) where
   bases-write x b a h e =
       tabulate-set (λ y. tagIn (baseWrite p y)) (λ y. tagIn (baseWrite (write t s x b a ∷ p) y)) 1024 x t h (rw (eq-eqb x x refl, e)) (λ j q. rw q)
 
-  pub bases-read : (x : ℕ) → basesOf p ≡ basesOf (read t s x ∷ p)
-  unfolding basesOf
-  bases-read x = tabulate-same _ _ 1024 (λ j. refl)
-
-  pub bases-commit : basesOf p ≡ basesOf (commit t s ∷ p)
-  unfolding basesOf
-  bases-commit = tabulate-same _ _ 1024 (λ j. refl)
-
-  pub bases-abort : basesOf p ≡ basesOf (abort t s ∷ p)
-  unfolding basesOf
-  bases-abort = tabulate-same _ _ 1024 (λ j. refl)
-
   pub reads-read : (x : ℕ) → x < 1024 → set (readsOf p) x t ≡ readsOf (read t s x ∷ p)
   unfolding readsOf
   reads-read x h =
@@ -183,14 +151,6 @@ module _ (p : History) (t : Tag) (s : ℕ) where
   unfolding readsOf
   reads-write x b a h =
       tabulate-set (λ y. newest (readsSince y p)) (λ y. newest (readsSince y (write t s x b a ∷ p))) 1024 x 0 h (rw (eq-eqb x x refl)) (λ j q. rw q)
-
-  pub reads-commit : readsOf p ≡ readsOf (commit t s ∷ p)
-  unfolding readsOf
-  reads-commit = tabulate-same _ _ 1024 (λ j. refl)
-
-  pub reads-abort : readsOf p ≡ readsOf (abort t s ∷ p)
-  unfolding readsOf
-  reads-abort = tabulate-same _ _ 1024 (λ j. refl)
 
 -- the first record of a transaction
 pub firsts-set : (p : History) (r : Op) → txOf r < 1025 → first (ofTx (txOf r)) p ≡ none → set (firstsOf p) (txOf r) (tagOf r) ≡ firstsOf (r ∷ p)

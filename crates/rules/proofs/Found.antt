@@ -9,19 +9,18 @@ use native.Mathlib.Omega.{arith}
 use lib.Dec.{eqb, leb}
 use borrow.Author.Tests.{not-false, leb-true}
 use Rattle.lists.specs.Search.{latest, orElse, first}
-use Rattle.lists.specs.Tables.{each}
 use Rattle.lists.proofs.BoolLaws.{and-left, and-right}
 use Rattle.format.specs.declared.Record.{Record}
 use Rattle.format.specs.Layout.{recordAt}
 use Rattle.model.specs.History.{Op, History, read, write, commit, abort, other, tagIn}
+use Rattle.model.proofs.Legal.{Sighted}
 use Rattle.model.proofs.Opening.{Passing, start, step}
 use Rattle.journal.specs.Journal.{items, txIn, opOf, history}
 use Rattle.journal.specs.Refusals.{within, malformed, closed, crossed, blind, mismatched}
-use Rattle.journal.specs.Orders.{decide, recordOrder}
-use Rattle.journal.proofs.Clear.{decide-clear, each-clear}
-use Rattle.journal.proofs.Checked.{RecordRight, clear-record}
+use Rattle.journal.proofs.Checked.{RecordRight}
 use Rattle.journal.proofs.Records.{tagOf-opOf}
 use Rattle.rules.specs.Recent.{byTx, lastWrite, baseWrite}
+use Rattle.rules.specs.Arrays.{CoreRight, SightedTo}
 
 -- ---- an operation that was looked for
 
@@ -77,15 +76,14 @@ pub found-some : {b : List ℕ} {n : ℕ} {o : Option Op} → Found b n o → (t
 found-some nothing e = absurd (e refl)
 found-some {b} (at t l m) e = rw (tagOf-opOf t (recordAt b t))
 
-pub found-tag : {b : List ℕ} {n : ℕ} {o : Option Op} → Found b n o → (o ≡ none → ⊥) → tagIn o ≡ 0 → ⊥
-found-tag f h e = h (found-none f e)
-
 -- ---- records that passed
 
-module _ (b : List ℕ) (n : ℕ) (k : decide (each (recordOrder b) 1 n) ≡ none) where
-  -- each of them passed
-  pub passed-right : (i : ℕ) → i < n → RecordRight b (suc i) (history b i)
-  passed-right i h = clear-record b i (each-clear (recordOrder b) 1 n (decide-clear _ k) (suc i) (omega arith) (omega arith))
+pub core-right : {b : List ℕ} {i : ℕ} {p : History} → RecordRight b i p → CoreRight b i p
+core-right r = record { formed = r .formed; chained = r .chained; unclosed = r .follows .unclosed; uncrossed = r .follows .uncrossed; matched = r .matched }
+
+module _ (b : List ℕ) (n : ℕ) (k : (i : ℕ) → i < n → CoreRight b (suc i) (history b i)) where
+  pub passed-right : (i : ℕ) → i < n → CoreRight b (suc i) (history b i)
+  passed-right = k
 
   -- their transactions are 1 to 1,024
   pub passed-range : (i : ℕ) → 1 ≤ i → i ≤ n → (1 ≤ txIn (recordAt b i)) × (txIn (recordAt b i) ≤ 1024)
@@ -100,11 +98,20 @@ module _ (b : List ℕ) (n : ℕ) (k : decide (each (recordOrder b) 1 n) ≡ non
 
   -- they are a history that passes
   passing-to : (m : ℕ) → m ≤ n → Passing (history b m)
-  unfolding history closed crossed blind mismatched
+  unfolding history closed crossed mismatched
   passing-to zero h = start
   passing-to (suc m) h =
       let r = passed-right m (omega arith) in
-      step (passing-to m (omega arith)) (record { closed = r .unclosed; uncrossed = r .uncrossed; sighted = r .sighted; matched = r .matched })
+      step (passing-to m (omega arith)) (record { closed = r .unclosed; uncrossed = r .uncrossed; matched = r .matched })
 
   pub passing-history : Passing (history b n)
   passing-history = passing-to n (omega arith)
+
+-- and each write follows a read
+sighted-to : (b : List ℕ) (n : ℕ) → SightedTo b n → (m : ℕ) → m ≤ n → Sighted (history b m)
+unfolding history blind
+sighted-to b n k zero h = tt
+sighted-to b n k (suc m) h = (sighted-to b n k m (omega arith), k .read m (omega arith))
+
+pub sighted-history : (b : List ℕ) (n : ℕ) → SightedTo b n → Sighted (history b n)
+sighted-history b n k = sighted-to b n k n (omega arith)

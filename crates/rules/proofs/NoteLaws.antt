@@ -24,7 +24,7 @@ use Rattle.rules.specs.Recent.{lastWrite, byTx}
 use Rattle.rules.specs.Arrays.{Ready, Linked, State, endsOf, firstsOf, writesOf, basesOf, readsOf, readBefore, firstPut}
 use Rattle.rules.specs.Answers.{writerOf}
 use Rattle.rules.proofs.Found.{first-found, found-none, found-some}
-use Rattle.rules.proofs.ArraysLaws.{firsts-at, reads-at, firsts-set, firsts-kept, ends-read, ends-write, ends-commit, ends-abort, writes-read, writes-write, writes-commit, writes-abort, bases-read, bases-again, bases-write, bases-commit, bases-abort, reads-read, reads-write, reads-commit, reads-abort, length-firsts, length-ends, length-writes, length-bases, length-reads, op-read, op-write, op-commit, op-abort}
+use Rattle.rules.proofs.ArraysLaws.{firsts-at, reads-at, firsts-set, firsts-kept, ends-commit, ends-abort, writes-write, bases-again, bases-write, reads-read, reads-write, length-firsts, length-ends, length-writes, length-bases, length-reads, op-read, op-write, op-commit, op-abort}
 use Rattle.rules.proofs.RuleLaws.{item-read, item-write}
 
 -- ---- leaves
@@ -107,12 +107,13 @@ module _ (b : List ℕ) (n : ℕ) (r : Record) (ends firsts writes bases reads l
 
   pub state-read : (reads' links' : List ℕ) → r .kind ≡ 1 → links' ≡ set links (n + 1) (getD reads (r .item .0) 0) → reads' ≡ set reads (r .item .0) (n + 1)
       → State b (n + 1) ends firsts' writes bases reads' links'
+  unfolding endsOf writesOf basesOf
   state-read reads' links' q c d =
       let x = item-read b n r k f q in
       state (read (suc n) (txIn r) (r .item .0)) (op-read (suc n) r q)
-      (s .ended ∙ ends-read (history b n) (suc n) (txIn r) (r .item .0))
-      (s .written ∙ writes-read (history b n) (suc n) (txIn r) (r .item .0))
-      (s .based ∙ bases-read (history b n) (suc n) (txIn r) (r .item .0))
+      (s .ended)
+      (s .written)
+      (s .based)
       (d ∙ rw (add-one, s .sighted) (reads-read (history b n) (suc n) (txIn r) (r .item .0) x))
       (rw (c, add-one, here) (linked-read b n links reads u (s .linked) (rw here at x) (s .sighted)))
 
@@ -122,12 +123,12 @@ module _ (b : List ℕ) (n : ℕ) (r : Record) (ends firsts writes bases reads l
   pub state-write : (writes' bases' reads' : List ℕ) (t : Touched) → r .kind ≡ 2 → t ≡ writerOf (history b n) (txIn r) (r .item .0) → writes' ≡ set writes (r .item .0) (n + 1)
       → bases' ≡ cond (t .own) bases (set bases (r .item .0) (n + 1)) → reads' ≡ set reads (r .item .0) 0
       → State b (n + 1) ends firsts' writes' bases' reads' links
-  unfolding writerOf
+  unfolding writerOf endsOf
   state-write writes' bases' reads' t q v c d g =
       let x = item-write b n r k f q in
       let y = r .item .0 in
       state (write (suc n) (txIn r) y (r .before) (r .after)) (op-write (suc n) r q)
-      (s .ended ∙ ends-write (history b n) (suc n) (txIn r) y (r .before) (r .after))
+      (s .ended)
       (c ∙ rw (add-one, s .written) (writes-write (history b n) (suc n) (txIn r) y (r .before) (r .after) x))
       (d ∙ rw (add-one, v, s .based)
       (byCases (byTx (lastWrite (history b n) y) (txIn r))
@@ -137,28 +138,42 @@ module _ (b : List ℕ) (n : ℕ) (r : Record) (ends firsts writes bases reads l
       (linked-other b n links (s .linked) (not-read 2 q (λ z. eqb-false 2 1 refl z)))
 
   pub state-commit : (ends' : List ℕ) → r .kind ≡ 3 → ends' ≡ set ends (txIn r) 1 → State b (n + 1) ends' firsts' writes bases reads links
+  unfolding writesOf basesOf readsOf
   state-commit ends' q c =
       let g = formed-range (items b) r f in
       state (commit (suc n) (txIn r)) (op-commit (suc n) r q)
       (c ∙ rw (s .ended) (ends-commit (history b n) (suc n) (txIn r) (omega arith)))
-      (s .written ∙ writes-commit (history b n) (suc n) (txIn r))
-      (s .based ∙ bases-commit (history b n) (suc n) (txIn r))
-      (s .sighted ∙ reads-commit (history b n) (suc n) (txIn r))
+      (s .written)
+      (s .based)
+      (s .sighted)
       (linked-other b n links (s .linked) (not-read 3 q (λ z. eqb-false 3 1 refl z)))
 
   pub state-abort : (ends' : List ℕ) → r .kind ≡ 4 → ends' ≡ set ends (txIn r) 2 → State b (n + 1) ends' firsts' writes bases reads links
+  unfolding writesOf basesOf readsOf
   state-abort ends' q c =
       let g = formed-range (items b) r f in
       state (abort (suc n) (txIn r)) (op-abort (suc n) r q)
       (c ∙ rw (s .ended) (ends-abort (history b n) (suc n) (txIn r) (omega arith)))
-      (s .written ∙ writes-abort (history b n) (suc n) (txIn r))
-      (s .based ∙ bases-abort (history b n) (suc n) (txIn r))
-      (s .sighted ∙ reads-abort (history b n) (suc n) (txIn r))
+      (s .written)
+      (s .based)
+      (s .sighted)
       (linked-other b n links (s .linked) (not-read 4 q (λ z. eqb-false 4 1 refl z)))
 
-  -- there is no other kind
-  pub state-no-kind : (r .kind ≡ 1 → ⊥) → (r .kind ≡ 2 → ⊥) → (r .kind ≡ 3 → ⊥) → (r .kind ≡ 4 → ⊥) → State b (n + 1) ends firsts' writes bases reads links
-  state-no-kind c d g h = absurd (formed-kinds (items b) r f c d g h)
+  -- a record that is no read and no write is an end
+  pub state-end : (ends' : List ℕ) (e : ℕ) → (r .kind ≡ 1 → ⊥) → (r .kind ≡ 2 → ⊥) → e ≡ cond (eqb (r .kind) 3) 1 2 → ends' ≡ set ends (txIn r) e
+      → State b (n + 1) ends' firsts' writes bases reads links
+  state-end ends' e x y v c =
+      byCases (eqb (r .kind) 3)
+      (λ z. state-commit ends' (eqb-true (r .kind) 3 z) (rw (v, z) at c))
+      (λ z. byCases (eqb (r .kind) 4)
+      (λ w. state-abort ends' (eqb-true (r .kind) 4 w) (rw (v, z) at c))
+      (λ w. absurd (formed-kinds (items b) r f x y (eqb-false (r .kind) 3 z) (eqb-false (r .kind) 4 w))))
+
+pub end-commit : (kind : ℕ) → kind ≡ 3 → _≡_ {A = ℕ} 1 (cond (eqb kind 3) 1 2)
+end-commit kind e = rw (eq-eqb kind 3 e)
+
+pub end-abort : (kind : ℕ) → (kind ≡ 3 → ⊥) → _≡_ {A = ℕ} 2 (cond (eqb kind 3) 1 2)
+end-abort kind e = rw (ne-eqb kind 3 e)
 
 -- ---- indices
 

@@ -1,7 +1,7 @@
 -- Touched of an item, one after the other.
 -- Assumes nothing.
-use mathlib.Core.Path.{_≡_, refl, sym, _∙_, ap}
-use mathlib.Core.Bool.{Bool, true, false, _||_}
+use mathlib.Core.Path.{_≡_, sym, _∙_, ap}
+use mathlib.Core.Bool.{true, false, _||_, or-true, or-false, or-assoc}
 use mathlib.Core.List.{List}
 use Prim.Native.Nat.{ℕ, _+_, _*_, _<_, _≤_}
 use native.Mathlib.Omega.{arith}
@@ -22,27 +22,19 @@ use Rattle.rules.proofs.Found.{latest-found, found-none, found-bound, f
 use Rattle.rules.proofs.ArraysLaws.{ends-at, writes-at, reads-at, length-ends, length-writes, length-reads}
 use Rattle.rules.proofs.Walk.{ReadAt, among, newest-bound, newest-is-read, among-newest, among-none, among-step, before-less, before-read}
 
-or-true : (a : Bool) → a || true ≡ true
-or-true true = refl
-or-true false = refl
-
-or-none : (a : Bool) → a || false ≡ a
-or-none true = refl
-or-none false = refl
-
 module _ (ends : List ℕ) (s v : ℕ) where
   module _ (f : Touched) where
     pub looked-own : s ≡ v → _≡_ {A = Touched} (record { other = f .other; own = true }) (looked ends s v f)
     unfolding looked
-    looked-own e = rw (eq-eqb s v e, or-none (f .other), or-true (f .own))
+    looked-own e = rw (eq-eqb s v e, or-false (f .other), or-true (f .own))
 
     pub looked-other : (s ≡ v → ⊥) → getD ends v 0 ≡ 0 → _≡_ {A = Touched} (record { other = true; own = f .own }) (looked ends s v f)
     unfolding looked
-    looked-other e z = rw (ne-eqb s v e, z, or-none (f .own), or-true (f .other))
+    looked-other e z = rw (ne-eqb s v e, z, or-false (f .own), or-true (f .other))
 
     pub looked-ended : (s ≡ v → ⊥) → (getD ends v 0 ≡ 0 → ⊥) → f ≡ looked ends s v f
     unfolding looked
-    looked-ended e z = rw (ne-eqb s v e, ne-eqb (getD ends v 0) 0 z, or-none (f .own), or-none (f .other))
+    looked-ended e z = rw (ne-eqb s v e, ne-eqb (getD ends v 0) 0 z, or-false (f .own), or-false (f .other))
 
 -- ---- the last writer
 
@@ -90,10 +82,6 @@ pub reads-in : (b : List ℕ) (n x : ℕ) (l : List ℕ) → l ≡ readsOf (hist
 reads-in b n x l e h = rw (e, length-reads (history b n)) h
 
 -- ---- the readers since
-
-or-assoc : (a b c : Bool) → (a || b) || c ≡ a || (b || c)
-or-assoc true b c = refl
-or-assoc false b c = refl
 
 -- at read k of item x, with those found on the way
 pub record Walked (b : List ℕ) (n s x : ℕ) (f : Touched) (k : ℕ) (all : Touched) : Type 0 where
@@ -147,6 +135,6 @@ module _ (b : List ℕ) (n s x : ℕ) (f : Touched) (k : ℕ) (all : Touched) (w
   pub walked-end : k ≡ 0 → all ≡ readersOf (history b n) s x f
   unfolding readersOf
   walked-end z =
-      let o : all .other ≡ f .other || readByOther (history b n) s x = sym (or-none (all .other)) ∙ ap (λ a. all .other || a) (sym (among-none (otherActive (history b n) s) x b)) ∙ (rw z at (w .other)) in
-      let p : all .own ≡ f .own || any (ofTx s) (readsSince x (history b n)) = sym (or-none (all .own)) ∙ ap (λ a. all .own || a) (sym (among-none (eqb s) x b)) ∙ (rw z at (w .own)) in
+      let o : all .other ≡ f .other || readByOther (history b n) s x = sym (or-false (all .other)) ∙ ap (λ a. all .other || a) (sym (among-none (otherActive (history b n) s) x b)) ∙ (rw z at (w .other)) in
+      let p : all .own ≡ f .own || any (ofTx s) (readsSince x (history b n)) = sym (or-false (all .own)) ∙ ap (λ a. all .own || a) (sym (among-none (eqb s) x b)) ∙ (rw z at (w .own)) in
       rw (← o, ← p)

@@ -1,53 +1,24 @@
--- In a history that passes rules 6 to 9, these rules and the standing amounts follow from what one pass keeps: only an item's last
+-- In a history that passes rules 6, 7 and 9, rules 6 to 9 and the standing amounts follow from what one pass keeps: only an item's last
 -- writer and the reads since its last write matter.
 -- Assumes nothing.
 use mathlib.Core.Path.{_≡_, refl, sym, _∙_, ap}
-use mathlib.Core.Bool.{Bool, false≢true, true, false, cond, not, _&&_, _||_, and-false}
+use mathlib.Core.Bool.{Bool, false≢true, true, false, cond, not, _&&_, _||_, and-false, Bool·not-not}
 use mathlib.Core.List.{[], _∷_}
 use mathlib.Core.Option.{Option, none, some}
 use Prim.Native.Nat.{ℕ}
 use lib.IntN.{pos}
 use lib.Dec.{eqb}
 use borrow.Author.Tests.{eqb-true, eq-eqb, not-false}
-use Rattle.lists.specs.Search.{any, latest, orElse, first}
-use Rattle.lists.proofs.BoolLaws.{byCases, or-left, or-right, or-cases, and-left, and-right, or-false-right, and-both, same-truth, not-both, clash}
-use Rattle.lists.proofs.SearchLaws.{any-mono, first-none, first-some}
-use Rattle.model.specs.History.{Op, History, Amount, read, write, commit, abort, other, txOf, beforeOf, afterOf, ofTx, readOf, writeOf, writeTo, accessTo, ended, beforeIn, current, initial, standing, committed, aborted, abortOf, endOf}
+use Rattle.lists.specs.Search.{any, orElse, first}
+use Rattle.lists.proofs.BoolLaws.{byCases, or-left, or-right, or-cases, and-left, and-right, or-false-right, and-both, same-truth, not-both}
+use Rattle.lists.proofs.SearchLaws.{any-mono, any-some, any-latest, latest-passes, first-none, first-some}
+use Rattle.model.specs.History.{Op, History, Amount, read, write, commit, abort, other, txOf, beforeOf, afterOf, ofTx, readOf, writeOf, accessOf, writeTo, accessTo, ended, beforeIn, current, initial, standing, committed, aborted}
 use Rattle.model.specs.Rules.{byOther}
-use Rattle.model.proofs.Closure.{committed-ended}
-use Rattle.model.proofs.Removal.{OfTx, read-of}
-use Rattle.model.proofs.Strict.{neq-sym, write-of, write-access, read-access, uncrossed-any}
+use Rattle.model.proofs.Ends.{EndsLast, read-of, write-of, access-of, access-to, read-access, write-touch, not-committed, not-aborted}
+use Rattle.model.proofs.Legal.{Sighted}
+use Rattle.model.proofs.Strict.{neq-sym, uncrossed-any}
 use Rattle.model.proofs.Opening.{Passing, step}
 use Rattle.rules.specs.Recent.{endCode, otherActive, lastWrite, byTx, byOtherActive, baseWrite, readsSince, readByOther, standingOf}
-
--- ---- elements of a list that pass
-
--- what is found passes another test
-pub any-latest : (f g : Op → Bool) (p : History) {w : Op} → latest f p ≡ some w → g w ≡ true → any g p ≡ true
-any-latest f g [] e h = cc
-any-latest f g (r ∷ p) {w} e h =
-    byCases (f r)
-    (λ q. let i : some r ≡ some w = rw q at e in let i' : r ≡ w = cc in or-left (g r) _ (rw i' h))
-    (λ q. or-right (g r) _ (any-latest f g p (rw q at e) h))
-
-pub latest-passes : (f : Op → Bool) (p : History) {w : Op} → latest f p ≡ some w → f w ≡ true
-latest-passes f [] h = cc
-latest-passes f (r ∷ p) {w} h =
-    byCases (f r)
-    (λ e. let i : some r ≡ some w = rw e at h in let i' : r ≡ w = cc in rw (← i') e)
-    (λ e. latest-passes f p (rw e at h))
-
-pub latest-none : (f : Op → Bool) (p : History) → latest f p ≡ none → any f p ≡ false
-latest-none f [] e = refl
-latest-none f (r ∷ p) e = byCases (f r) (λ q. let z : some r ≡ none = rw q at e in cc) (λ q. rw q (latest-none f p (rw q at e)))
-
--- some element that passes; what holds of it holds of one
-pub any-some : (f : Op → Bool) (p : History) → any f p ≡ true → (r : Op) × (f r ≡ true) × ((g : Op → Bool) → g r ≡ true → any g p ≡ true)
-any-some f [] e = absurd (false≢true e)
-any-some f (r ∷ p) e =
-    byCases (f r)
-    (λ q. (r, q, λ g t. or-left (g r) _ t))
-    (λ q. let (w, t, h) = any-some f p (rw q at e) in (w, t, λ g u. or-right (g r) _ (h g u)))
 
 -- ---- ends
 
@@ -60,11 +31,7 @@ ended-code (abort t v ∷ p) s = byCases (eqb s v) (λ e. rw e) (λ e. rw e (end
 ended-code (other t v ∷ p) s = ended-code p s
 
 pub active-code : (p : History) (s : ℕ) → not (ended p s) ≡ eqb (endCode p s) 0
-active-code p s = ap not (ended-code p s) ∙ twice (eqb (endCode p s) 0)
-  where
-    twice : (a : Bool) → not (not a) ≡ a
-    twice true = refl
-    twice false = refl
+active-code p s = ap not (ended-code p s) ∙ Bool·not-not (eqb (endCode p s) 0)
 
 -- no end: no abort
 ended-no-abort : (p : History) (s : ℕ) → ended p s ≡ false → eqb (endCode p s) 2 ≡ false
@@ -74,15 +41,6 @@ other-active : (p : History) (s v : ℕ) → otherActive p s v ≡ not (eqb s v)
 other-active p s v = ap (λ e. not (eqb s v) && e) (sym (active-code p v))
 
 -- ---- an open transaction: what it did to item x
-
-abbrev accessOf : ℕ → ℕ → Op → Bool
-accessOf v x r = eqb v (txOf r) && accessTo x r
-
-access-of : (v x : ℕ) → OfTx (accessOf v x) v
-access-of v x r h = eqb-true v (txOf r) (and-left _ (accessTo x r) h)
-
-access-to : (v x : ℕ) (r : Op) → accessOf v x r ≡ true → accessTo x r ≡ true
-access-to v x r h = and-right (eqb v (txOf r)) _ h
 
 module _ (x v : ℕ) where
   -- it has written the item, if and only if it wrote it last
@@ -94,31 +52,31 @@ module _ (x v : ℕ) where
       (λ q. let xy = eqb-true x y q in
       byCases (eqb v u)
       (λ g. rw (q, g))
-      (λ g. rw (q, g) (uncrossed-any (accessTo x) (writeOf v x) p u v (write-of v x) (write-access v x) (rw (← xy) at (l .uncrossed)) (neq-sym v u g) e)))
+      (λ g. rw (q, g) (uncrossed-any (accessTo x) (writeOf v x) p u v (write-of v x) (write-touch v x) (rw (← xy) at (l .uncrossed)) (neq-sym v u g) e)))
       (λ q. rw (q, and-false (eqb v u)) (open-writes p k e))
   open-writes (commit t u ∷ p) (step k l) e = open-writes p k (or-false-right (eqb v u) _ e)
   open-writes (abort t u ∷ p) (step k l) e = open-writes p k (or-false-right (eqb v u) _ e)
   open-writes (other t u ∷ p) (step k l) e = open-writes p k e
 
-  -- it has read the item, if and only if it wrote it last or has read it since
-  pub open-reads : (p : History) → Passing p → ended p v ≡ false → any (readOf v x) p ≡ byTx (lastWrite p x) v || any (ofTx v) (readsSince x p)
-  open-reads [] k e = refl
-  open-reads (read t u y ∷ p) (step k l) e =
+  -- where each write follows a read, it has read the item, if and only if it wrote it last or has read it since
+  pub open-reads : (p : History) → Passing p → Sighted p → ended p v ≡ false → any (readOf v x) p ≡ byTx (lastWrite p x) v || any (ofTx v) (readsSince x p)
+  open-reads [] k g e = refl
+  open-reads (read t u y ∷ p) (step k l) g e =
       byCases (eqb x y)
       (λ q. byCases (eqb v u)
-      (λ g. rw (q, g) (sym (or-right (byTx (lastWrite p x) v) true refl)))
-      (λ g. rw (q, g) (open-reads p k e)))
-      (λ q. rw (q, and-false (eqb v u)) (open-reads p k e))
-  open-reads (write t u y b a ∷ p) (step k l) e =
+      (λ w. rw (q, w) (sym (or-right (byTx (lastWrite p x) v) true refl)))
+      (λ w. rw (q, w) (open-reads p k (g .0) e)))
+      (λ q. rw (q, and-false (eqb v u)) (open-reads p k (g .0) e))
+  open-reads (write t u y b a ∷ p) (step k l) g e =
       byCases (eqb x y)
       (λ q. let xy = eqb-true x y q in
       byCases (eqb v u)
-      (λ g. rw (q, g, eqb-true v u g, xy) (not-false _ (l .sighted)))
-      (λ g. rw (q, g) (uncrossed-any (accessTo x) (readOf v x) p u v (read-of v x) (read-access v x) (rw (← xy) at (l .uncrossed)) (neq-sym v u g) e)))
-      (λ q. rw q (open-reads p k e))
-  open-reads (commit t u ∷ p) (step k l) e = open-reads p k (or-false-right (eqb v u) _ e)
-  open-reads (abort t u ∷ p) (step k l) e = open-reads p k (or-false-right (eqb v u) _ e)
-  open-reads (other t u ∷ p) (step k l) e = open-reads p k e
+      (λ w. rw (q, w, eqb-true v u w, xy) (not-false _ (g .1)))
+      (λ w. rw (q, w) (uncrossed-any (accessTo x) (readOf v x) p u v (read-of v x) (λ r z. access-to v x r (read-access v x r z)) (rw (← xy) at (l .uncrossed)) (neq-sym v u w) e)))
+      (λ q. rw q (open-reads p k (g .0) e))
+  open-reads (commit t u ∷ p) (step k l) g e = open-reads p k (g .0) (or-false-right (eqb v u) _ e)
+  open-reads (abort t u ∷ p) (step k l) g e = open-reads p k (g .0) (or-false-right (eqb v u) _ e)
+  open-reads (other t u ∷ p) (step k l) g e = open-reads p k (g .0) e
 
   -- it has read or written the item
   pub open-accesses : (p : History) → Passing p → ended p v ≡ false → any (accessOf v x) p ≡ byTx (lastWrite p x) v || any (ofTx v) (readsSince x p)
@@ -136,9 +94,9 @@ module _ (x v : ℕ) where
       (λ g. rw (q, g))
       (λ g. rw (q, g) (uncrossed-any (accessTo x) (accessOf v x) p u v (access-of v x) (access-to v x) (rw (← xy) at (l .uncrossed)) (neq-sym v u g) e)))
       (λ q. rw (q, and-false (eqb v u)) (open-accesses p k e))
-  open-accesses (commit t u ∷ p) (step k l) e = rw (and-false (eqb v u)) (open-accesses p k (or-false-right (eqb v u) _ e))
-  open-accesses (abort t u ∷ p) (step k l) e = rw (and-false (eqb v u)) (open-accesses p k (or-false-right (eqb v u) _ e))
-  open-accesses (other t u ∷ p) (step k l) e = rw (and-false (eqb v u)) (open-accesses p k e)
+  open-accesses (commit t u ∷ p) (step k l) e = open-accesses p k (or-false-right (eqb v u) _ e)
+  open-accesses (abort t u ∷ p) (step k l) e = open-accesses p k (or-false-right (eqb v u) _ e)
+  open-accesses (other t u ∷ p) (step k l) e = open-accesses p k e
 
 -- ---- rules 7 and 8
 
@@ -148,6 +106,13 @@ own-write (write t v y b a) x h = rw (eq-eqb v v refl) h
 own-write (commit t v) x h = h
 own-write (abort t v) x h = h
 own-write (other t v) x h = h
+
+own-access : (r : Op) (x : ℕ) → accessTo x r ≡ true → accessOf (txOf r) x r ≡ true
+own-access (read t v y) x h = rw (eq-eqb v v refl) h
+own-access (write t v y b a) x h = rw (eq-eqb v v refl) h
+own-access (commit t v) x h = h
+own-access (abort t v) x h = h
+own-access (other t v) x h = h
 
 module _ (p : History) (k : Passing p) where
   -- the test of rule 7 at one operation
@@ -190,7 +155,7 @@ module _ (p : History) (k : Passing p) where
           let (r, t, h) = any-some (λ r. accessTo x r && strange s r) p e in
           let v = txOf r in
           let o = and-right (accessTo x r) _ t in
-          let a = h (accessOf v x) (and-both _ _ (eq-eqb v v refl) (and-left (accessTo x r) _ t)) in
+          let a = h (accessOf v x) (own-access r x (and-left (accessTo x r) _ t)) in
           or-cases (byTx (lastWrite p x) v) (any (ofTx v) (readsSince x p)) (sym (open-accesses x v p k (open-of s v o)) ∙ a)
           (λ w. or-left _ (readByOther p s x) (by-tx-self s v (lastWrite p x) w o))
           (λ w. or-right (byOtherActive p s (lastWrite p x)) _
@@ -284,37 +249,24 @@ standing-last d x p k {w} e = current-last (initial d p x) x p k e ∙ rw (e, ba
 
 -- ---- ends, where no transaction goes on after its end
 
-open-uncommitted : (p : History) (s : ℕ) → ended p s ≡ false → committed p s ≡ false
-open-uncommitted p s e = byCases (committed p s) (λ q. clash (committed-ended s p q) e) (λ q. q)
-
-pub committed-code : (p : History) → Passing p → (s : ℕ) → committed p s ≡ eqb (endCode p s) 1
-committed-code [] k s = refl
-committed-code (read t v y ∷ p) (step k l) s = committed-code p k s
-committed-code (write t v y b a ∷ p) (step k l) s = committed-code p k s
-committed-code (commit t v ∷ p) (step k l) s = byCases (eqb s v) (λ e. rw e) (λ e. rw e (committed-code p k s))
-committed-code (abort t v ∷ p) (step k l) s =
+pub code-committed : (s : ℕ) (p : History) → EndsLast p → eqb (endCode p s) 1 ≡ committed p s
+code-committed s [] c = refl
+code-committed s (read t v x ∷ p) c = code-committed s p (c .0)
+code-committed s (write t v x b a ∷ p) c = code-committed s p (c .0)
+code-committed s (commit t v ∷ p) c = byCases (eqb s v) (λ e. rw e) (λ e. rw e (code-committed s p (c .0)))
+code-committed s (abort t v ∷ p) c =
     byCases (eqb s v)
-    (λ e. rw e (open-uncommitted p s (rw (eqb-true s v e) (l .closed))))
-    (λ e. rw e (committed-code p k s))
-committed-code (other t v ∷ p) (step k l) s = committed-code p k s
+    (λ e. rw (e, not-committed s p (rw (eqb-true s v e) (c .1))))
+    (λ e. rw e (code-committed s p (c .0)))
+code-committed s (other t v ∷ p) c = code-committed s p (c .0)
 
-abort-end : (s : ℕ) (r : Op) → abortOf s r ≡ true → endOf s r ≡ true
-abort-end s (read t v x) h = h
-abort-end s (write t v x b a) h = h
-abort-end s (commit t v) h = absurd (false≢true h)
-abort-end s (abort t v) h = h
-abort-end s (other t v) h = h
-
-open-unaborted : (p : History) (s : ℕ) → ended p s ≡ false → aborted p s ≡ false
-open-unaborted p s e = byCases (aborted p s) (λ q. clash (any-mono (abortOf s) (endOf s) (abort-end s) p q) e) (λ q. q)
-
-pub aborted-code : (p : History) → Passing p → (s : ℕ) → aborted p s ≡ eqb (endCode p s) 2
-aborted-code [] k s = refl
-aborted-code (read t v y ∷ p) (step k l) s = aborted-code p k s
-aborted-code (write t v y b a ∷ p) (step k l) s = aborted-code p k s
-aborted-code (commit t v ∷ p) (step k l) s =
+pub code-aborted : (s : ℕ) (p : History) → EndsLast p → eqb (endCode p s) 2 ≡ aborted p s
+code-aborted s [] c = refl
+code-aborted s (read t v x ∷ p) c = code-aborted s p (c .0)
+code-aborted s (write t v x b a ∷ p) c = code-aborted s p (c .0)
+code-aborted s (commit t v ∷ p) c =
     byCases (eqb s v)
-    (λ e. rw e (open-unaborted p s (rw (eqb-true s v e) (l .closed))))
-    (λ e. rw e (aborted-code p k s))
-aborted-code (abort t v ∷ p) (step k l) s = byCases (eqb s v) (λ e. rw e) (λ e. rw e (aborted-code p k s))
-aborted-code (other t v ∷ p) (step k l) s = aborted-code p k s
+    (λ e. rw (e, not-aborted s p (rw (eqb-true s v e) (c .1))))
+    (λ e. rw e (code-aborted s p (c .0)))
+code-aborted s (abort t v ∷ p) c = byCases (eqb s v) (λ e. rw e) (λ e. rw e (code-aborted s p (c .0)))
+code-aborted s (other t v ∷ p) c = code-aborted s p (c .0)

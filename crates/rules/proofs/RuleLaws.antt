@@ -1,7 +1,7 @@
 -- Rules 6 to 9 of a record, decided from what the working arrays hold.
 -- Assumes nothing.
 use mathlib.Core.Path.{_≡_, refl, sym, _∙_, ap}
-use mathlib.Core.Bool.{Bool, true, false, cond, not, _&&_}
+use mathlib.Core.Bool.{Bool, true, false, cond, not, _&&_, Bool·not-not}
 use mathlib.Core.List.{List}
 use mathlib.Core.Option.{Option, none, some}
 use Prim.Native.Nat.{ℕ, _+_, _<_}
@@ -14,22 +14,22 @@ use mir.Syntax.{w32}
 use mir.Val.{toZ, ofZ, SFits}
 use mir.ValLaws.{toZ-ofZ}
 use Rattle.lists.specs.Search.{any, orElse}
+use Rattle.lists.proofs.SearchLaws.{latest-passes, any-latest, latest-none}
 use Rattle.format.specs.declared.Record.{Record}
 use Rattle.model.specs.History.{Op, History, Amount, sameAmount, commit, abort, other, writeTo, ended, standing}
 use Rattle.model.specs.Rules as rules
 use Rattle.journal.specs.Journal.{items, txIn, opOf, history}
 use Rattle.journal.specs.Refusals.{malformed, closed, crossed, blind, mismatched}
-use Rattle.journal.specs.Orders.{Refusal, decide}
+use Rattle.journal.specs.Orders.{Refusal, accessOrder, ruleOrder, decide}
 use Rattle.journal.proofs.Records.{txOf-opOf}
-use Rattle.journal.proofs.OrdersLaws.{decide-append}
-use Rattle.fields.proofs.OrderLaws.{decide-try}
+use Rattle.journal.proofs.OrdersLaws.{orElse-none, orElse-assoc, decide-try, decide-turn, decide-over}
 use Rattle.fields.proofs.Fields.{formed-range, formed-item-read, formed-item-write}
 use Rattle.rules.specs.declared.Touched.{Touched}
 use Rattle.rules.specs.Recent.{endCode, lastWrite, byOtherActive, unlikeStanding}
-use Rattle.rules.specs.Arrays.{Ready, endsOf, writesOf}
-use Rattle.rules.specs.Answers.{ruleOrder, writerOf, readersOf}
-use Rattle.rules.proofs.Recent.{latest-passes, any-latest, latest-none, ended-code, open-reads, other-writer, other-access}
-use Rattle.rules.proofs.Found.{passing-history}
+use Rattle.rules.specs.Arrays.{Ready, SightedTo, endsOf, writesOf}
+use Rattle.rules.specs.Answers.{writerOf, readersOf}
+use Rattle.rules.proofs.Recent.{ended-code, open-reads, other-writer, other-access}
+use Rattle.rules.proofs.Found.{passing-history, sighted-history}
 use Rattle.rules.proofs.ArraysLaws.{ends-at, length-ends, op-read, op-write}
 use Rattle.rules.proofs.ReadersLaws.{last-none, last-some}
 
@@ -38,9 +38,9 @@ abbrev pub at : ℕ → ℕ → Option Refusal
 at k i = some (record { number = k; place = i })
 
 pub rule-parts : (p : History) (i : ℕ) (o : Op)
-    → decide (ruleOrder p i o) ≡ orElse (orElse (orElse (cond (closed p o) (at 6 i) none) (cond (crossed p o) (at 7 i) none)) (cond (blind p o) (at 8 i) none)) (cond (mismatched p o) (at 9 i) none)
-unfolding ruleOrder
-rule-parts p i o = simp (decide-append, decide-try)
+    → decide (ruleOrder p i o) ≡ orElse (cond (closed p o) (at 6 i) none) (orElse (cond (crossed p o) (at 7 i) none) (orElse (cond (blind p o) (at 8 i) none) (cond (mismatched p o) (at 9 i) none)))
+unfolding ruleOrder accessOrder
+rule-parts p i o = simp (decide-turn, decide-over, decide-try, orElse-none, orElse-assoc)
 
 -- ---- rules 6 to 9
 
@@ -71,7 +71,7 @@ module _ (b : List ℕ) (n : ℕ) (r : Record) (k : Ready b n) (f : malformed (i
       unended = ended-code (history b n) (txIn r) ∙ rw (← end-is, z)
 
       rest : decide (ruleOrder (history b n) (n + 1) (opOf (n + 1) r))
-          ≡ orElse (orElse (cond (crossed (history b n) (opOf (n + 1) r)) (at 7 (n + 1)) none) (cond (blind (history b n) (opOf (n + 1) r)) (at 8 (n + 1)) none)) (cond (mismatched (history b n) (opOf (n + 1) r)) (at 9 (n + 1)) none)
+          ≡ orElse (cond (crossed (history b n) (opOf (n + 1) r)) (at 7 (n + 1)) none) (orElse (cond (blind (history b n) (opOf (n + 1) r)) (at 8 (n + 1)) none) (cond (mismatched (history b n) (opOf (n + 1) r)) (at 9 (n + 1)) none))
       rest = rw (rule-parts (history b n) (n + 1) (opOf (n + 1) r), closed-is, z)
 
       -- an end
@@ -83,7 +83,7 @@ module _ (b : List ℕ) (n : ℕ) (r : Record) (k : Ready b n) (f : malformed (i
           of e g = cond e (commit (n + 1) (txIn r)) (cond g (abort (n + 1) (txIn r)) (other (n + 1) (txIn r)))
 
           two : (e g : Bool)
-              → none ≡ orElse (orElse (cond (rules.crossed (history b n) (of e g)) (at 7 (n + 1)) none) (cond (rules.blind (history b n) (of e g)) (at 8 (n + 1)) none)) (cond (rules.mismatched (history b n) (of e g)) (at 9 (n + 1)) none)
+              → none ≡ orElse (cond (rules.crossed (history b n) (of e g)) (at 7 (n + 1)) none) (orElse (cond (rules.blind (history b n) (of e g)) (at 8 (n + 1)) none) (cond (rules.mismatched (history b n) (of e g)) (at 9 (n + 1)) none))
           two true g = refl
           two false true = refl
           two false false = refl
@@ -94,11 +94,7 @@ module _ (b : List ℕ) (n : ℕ) (r : Record) (k : Ready b n) (f : malformed (i
         unfolding crossed blind mismatched writerOf
         read-rest =
             rw (rest, op-read (n + 1) r e, other-writer (history b n) (passing-history b n (k .passed)) (txIn r) (r .item .0), w)
-            (tidy (byOtherActive (history b n) (txIn r) (lastWrite (history b n) (r .item .0))))
-          where
-            tidy : (c : Bool) → orElse (orElse (cond c (at 7 (n + 1)) none) none) none ≡ cond c (at 7 (n + 1)) none
-            tidy true = refl
-            tidy false = refl
+            (orElse-none (cond (byOtherActive (history b n) (txIn r) (lastWrite (history b n) (r .item .0))) (at 7 (n + 1)) none))
 
         pub read-crossed : t .other ≡ true → at 7 (n + 1) ≡ decide (ruleOrder (history b n) (n + 1) (opOf (n + 1) r))
         read-crossed h = rw (read-rest, h)
@@ -112,9 +108,9 @@ module _ (b : List ℕ) (n : ℕ) (r : Record) (k : Ready b n) (f : malformed (i
         unfolding crossed writerOf readersOf
         crossed-is = rw (op-write (n + 1) r e, v, w) (other-access (history b n) (passing-history b n (k .passed)) (txIn r) (r .item .0))
 
-        blind-is : blind (history b n) (opOf (n + 1) r) ≡ not (u .own)
+        blind-is : SightedTo b n → blind (history b n) (opOf (n + 1) r) ≡ not (u .own)
         unfolding blind writerOf readersOf
-        blind-is = rw (op-write (n + 1) r e, v, w) (ap not (open-reads (r .item .0) (txIn r) (history b n) (passing-history b n (k .passed)) unended))
+        blind-is g = rw (op-write (n + 1) r e, v, w) (ap not (open-reads (r .item .0) (txIn r) (history b n) (passing-history b n (k .passed)) (sighted-history b n g) unended))
 
         mismatched-is : mismatched (history b n) (opOf (n + 1) r) ≡ any (writeTo (r .item .0)) (history b n) && not (sameAmount (r .before) (standing (pos 0) (history b n) (r .item .0)))
         unfolding mismatched
@@ -123,17 +119,17 @@ module _ (b : List ℕ) (n : ℕ) (r : Record) (k : Ready b n) (f : malformed (i
         pub write-crossed : u .other ≡ true → at 7 (n + 1) ≡ decide (ruleOrder (history b n) (n + 1) (opOf (n + 1) r))
         write-crossed h = rw (rest, crossed-is, h)
 
-        module _ (h : u .other ≡ false) where
+        module _ (h : u .other ≡ false) (d : SightedTo b n) where
           pub write-blind : u .own ≡ false → at 8 (n + 1) ≡ decide (ruleOrder (history b n) (n + 1) (opOf (n + 1) r))
-          write-blind o = rw (rest, crossed-is, h, blind-is, o)
+          write-blind o = rw (rest, crossed-is, h, blind-is d, o)
 
           pub write-matched : u .own ≡ true → mismatched (history b n) (opOf (n + 1) r) ≡ false → none ≡ decide (ruleOrder (history b n) (n + 1) (opOf (n + 1) r))
-          write-matched o x = rw (rest, crossed-is, h, blind-is, o, x)
+          write-matched o x = rw (rest, crossed-is, h, blind-is d, o, x)
 
           module _ (o : u .own ≡ true) (p : Bool) (q : p ≡ not (unlikeStanding (history b n) (r .item .0) (r .before))) where
             last-is : decide (ruleOrder (history b n) (n + 1) (opOf (n + 1) r)) ≡ cond (unlikeStanding (history b n) (r .item .0) (r .before)) (at 9 (n + 1)) none
             unfolding unlikeStanding
-            last-is = rw (rest, crossed-is, h, blind-is, o, mismatched-is)
+            last-is = rw (rest, crossed-is, h, blind-is d, o, mismatched-is)
 
             pub write-right : p ≡ true → none ≡ decide (ruleOrder (history b n) (n + 1) (opOf (n + 1) r))
             write-right x = rw (last-is, not-true (unlikeStanding (history b n) (r .item .0) (r .before)) (sym q ∙ x))
@@ -156,11 +152,7 @@ module _ (b : List ℕ) (n x j : ℕ) (l : List ℕ) (k : Ready b n) (d : l ≡ 
   -- a compared with the standing amount s
   pub unlike-written : (s : Amount) (p : Bool) → (j ≡ 0 → ⊥) → s ≡ standing (pos 0) (history b n) x → p ≡ sameAmount a s → p ≡ not (unlikeStanding (history b n) x a)
   unfolding unlikeStanding
-  unlike-written s p y c f = f ∙ rw (written y, c) (twice (sameAmount a (standing (pos 0) (history b n) x)))
-    where
-      twice : (t : Bool) → t ≡ not (not t)
-      twice true = refl
-      twice false = refl
+  unlike-written s p y c f = f ∙ rw (written y, c) (sym (Bool·not-not (sameAmount a (standing (pos 0) (history b n) x))))
 
   -- each read back from its bits
   pub unlike-bits : (s : Amount) (p : Bool) → (j ≡ 0 → ⊥) → s ≡ standing (pos 0) (history b n) x → SFits w32 a → SFits w32 s → p ≡ sameAmount (toZ w32 (ofZ w32 a)) (toZ w32 (ofZ w32 s))

@@ -1,17 +1,16 @@
 -- What the answers of the code say: document 01's number and place, and who touched an item.
 -- Assumes nothing.
 use mathlib.Core.Bool.{not, _&&_, _||_}
-use mathlib.Core.List.{List, _++_}
+use mathlib.Core.List.{List}
 use mathlib.Core.Option.{Option, none, some}
 use Prim.Native.Nat.{ℕ}
 use lib.Dec.{eqb}
 use lib.ListN.{getD}
 use Rattle.lists.specs.Search.{any}
-use Rattle.model.specs.History.{Op, History, ofTx}
+use Rattle.model.specs.History.{History, ofTx}
 use Rattle.journal.specs.declared.Reason.{Reason}
 use Rattle.journal.specs.Reasons.{numberOf, placeOf}
-use Rattle.journal.specs.Refusals.{closed, crossed, blind, mismatched}
-use Rattle.journal.specs.Orders.{Refusal, Order, try}
+use Rattle.journal.specs.Orders.{Refusal}
 use Rattle.rules.specs.declared.Verdict.{Verdict}
 use Rattle.rules.specs.declared.Verdict.the-variants as verdict
 use Rattle.rules.specs.declared.Touched.{Touched}
@@ -23,10 +22,6 @@ refusalOf why = record { number = numberOf why; place = placeOf why }
 abbrev pub verdictOf : Verdict → Option Refusal
 verdictOf verdict.Passed = none
 verdictOf (verdict.Refused why) = some (refusalOf why)
-
--- 6 to 9 of an operation with record number i, after the history p
-unfoldable pub ruleOrder : History → ℕ → Op → Order
-ruleOrder p i o = try 6 i (closed p o) ++ try 7 i (crossed p o) ++ try 8 i (blind p o) ++ try 9 i (mismatched p o)
 
 -- who touched an item, as transaction s asks: another active transaction, and s itself
 unfoldable pub writerOf : History → ℕ → ℕ → Touched

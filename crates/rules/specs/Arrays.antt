@@ -1,17 +1,16 @@
 -- What the working arrays hold after the first n records of a journal.
 -- Assumes nothing.
 use mathlib.Core.Path.{_≡_}
-use mathlib.Core.Bool.{cond}
+use mathlib.Core.Bool.{false, cond}
 use mathlib.Core.List.{List}
-use mathlib.Core.Option.{none}
-use Prim.Native.Nat.{ℕ, _+_, _*_, _≤_, pred}
+use Prim.Native.Nat.{ℕ, _+_, _*_, _≤_, _<_, suc, pred}
 use lib.Dec.{eqb}
 use lib.ListN.{length, getD, set}
-use Rattle.lists.specs.Tables.{tabulate, each}
+use Rattle.lists.specs.Tables.{tabulate}
 use Rattle.format.specs.Layout.{recordAt}
 use Rattle.model.specs.History.{History, Tag, tagIn}
-use Rattle.journal.specs.Journal.{items, history}
-use Rattle.journal.specs.Orders.{decide, recordOrder}
+use Rattle.journal.specs.Journal.{items, opOf, history}
+use Rattle.journal.specs.Refusals.{malformed, unchained, closed, crossed, blind, mismatched}
 use Rattle.rules.specs.Recent.{endCode, firstTag, lastWrite, baseWrite, readsSince, newest}
 
 -- ---- by transaction, 0 to 1,024
@@ -48,13 +47,25 @@ pub record Linked (b : List ℕ) (n : ℕ) (l : List ℕ) : Type 0 where
   pub size : length l ≡ 3201
   pub link : (k : ℕ) → 1 ≤ k → k ≤ n → recordAt b k .kind ≡ 1 → getD l k 0 ≡ readBefore b k
 
--- ---- records 1 to n pass 4 to 9
+-- ---- records 1 to n pass
+
+-- no refusal of 4 to 7 and 9 at record i, after the history p
+pub record CoreRight (b : List ℕ) (i : ℕ) (p : History) : Type 0 where
+  pub formed : malformed (items b) (recordAt b i) ≡ false
+  pub chained : unchained b i ≡ false
+  pub unclosed : closed p (opOf i (recordAt b i)) ≡ false
+  pub uncrossed : crossed p (opOf i (recordAt b i)) ≡ false
+  pub matched : mismatched p (opOf i (recordAt b i)) ≡ false
 
 pub record Ready (b : List ℕ) (n : ℕ) : Type 0 where
   pub long : 20 * n + 20 ≤ length b
   pub few : n ≤ 3200
   pub items : items b ≤ 1024
-  pub passed : decide (each (recordOrder b) 1 n) ≡ none
+  pub passed : (i : ℕ) → i < n → CoreRight b (suc i) (history b i)
+
+-- and rule 8, which only what decides 8 asks for
+pub record SightedTo (b : List ℕ) (n : ℕ) : Type 0 where
+  pub read : (i : ℕ) → i < n → blind (history b i) (opOf (suc i) (recordAt b (suc i))) ≡ false
 
 -- ---- what an array holds after the first n records
 

@@ -2,22 +2,24 @@
 ghost use mathlib.Core.Path.{_≡_};
 ghost use mathlib.Core.Bool.{false, cond, not};
 ghost use Prim.Native.Nat.{_+_, _≤_, _<_};
+ghost use lib.Dec.{eqb};
 ghost use lib.IntN.{pos};
 ghost use lib.ListN.{length, getD, set};
 ghost use Rattle.format.specs.Layout.{recordAt};
 ghost use Rattle.model.specs.History.{standing};
 ghost use Rattle.journal.specs.Journal.{items, opOf, history};
 ghost use Rattle.journal.specs.Refusals.{malformed, mismatched};
-ghost use Rattle.journal.specs.Orders.{decide};
+ghost use Rattle.journal.specs.Orders.{decide, ruleOrder};
 ghost use Rattle.rules.specs.Recent.{unlikeStanding};
-ghost use Rattle.rules.specs.Arrays.{Ready, Ended, Written, Based, Sighted, Linked, State, firstPut};
-ghost use Rattle.rules.specs.Answers.{verdictOf, ruleOrder, writerOf, readersOf, looked};
+ghost use Rattle.rules.specs.Arrays.{Ready, SightedTo, Ended, Written, Based, Sighted, Linked, State, firstPut};
+ghost use Rattle.rules.specs.Answers.{verdictOf, writerOf, readersOf, looked};
 use fields::same;
 use format::Lsn;
 use format::Record;
 use format::record_at;
 use format::transaction_at;
 use journal::Reason;
+use lists::at;
 
 // What a stage finds.
 pub enum Verdict {
@@ -29,14 +31,6 @@ pub enum Verdict {
 pub struct Touched {
     pub other: bool,
     pub own: bool,
-}
-
-// A record number in a working array.
-pub fn at(list: &[u32], i: usize) -> usize
-    requires { ⌜ i < length (now list) ⌝ }
-    ensures { λ r. ⌜ r ≡ getD (now (list .entry)) i 0 ⌝ }
-{
-    list[i] as usize
 }
 
 // Transaction v touched the item too.
@@ -174,7 +168,7 @@ fn judge_write(
     links: &[u32],
     r: Record,
 ) -> Verdict
-    requires { ⌜ Ready (now journal) n × Ended (now journal) n (now ends) × Written (now journal) n (now writes) × Based (now journal) n (now bases) × Sighted (now journal) n (now reads) × Linked (now journal) n (now links) × (malformed (items (now journal)) r ≡ false) × (r .kind ≡ 2) × (getD (now ends) (r .transaction .0) 0 ≡ 0) ⌝ }
+    requires { ⌜ Ready (now journal) n × Ended (now journal) n (now ends) × Written (now journal) n (now writes) × Based (now journal) n (now bases) × Sighted (now journal) n (now reads) × Linked (now journal) n (now links) × (malformed (items (now journal)) r ≡ false) × (r .kind ≡ 2) × (getD (now ends) (r .transaction .0) 0 ≡ 0) × SightedTo (now journal) n ⌝ }
     ensures { λ v. ⌜ verdictOf v ≡ decide (ruleOrder (history (now (journal .entry)) n) (n + 1) (opOf (n + 1) r)) ⌝ }
 {
     let i = (n + 1) as u32;
@@ -207,7 +201,7 @@ pub fn judge(
     links: &[u32],
     r: Record,
 ) -> Verdict
-    requires { ⌜ Ready (now journal) n × Ended (now journal) n (now ends) × Written (now journal) n (now writes) × Based (now journal) n (now bases) × Sighted (now journal) n (now reads) × Linked (now journal) n (now links) × (malformed (items (now journal)) r ≡ false) ⌝ }
+    requires { ⌜ Ready (now journal) n × Ended (now journal) n (now ends) × Written (now journal) n (now writes) × Based (now journal) n (now bases) × Sighted (now journal) n (now reads) × Linked (now journal) n (now links) × (malformed (items (now journal)) r ≡ false) × SightedTo (now journal) n ⌝ }
     ensures { λ v. ⌜ verdictOf v ≡ decide (ruleOrder (history (now (journal .entry)) n) (n + 1) (opOf (n + 1) r)) ⌝ }
 {
     let i = (n + 1) as u32;
@@ -233,7 +227,7 @@ fn judge_added_write(
     links: &[u32],
     r: Record,
 ) -> Verdict
-    requires { ⌜ Ready (now journal) n × Ended (now journal) n (now ends) × Written (now journal) n (now writes) × Sighted (now journal) n (now reads) × Linked (now journal) n (now links) × (malformed (items (now journal)) r ≡ false) × (r .kind ≡ 2) × (getD (now ends) (r .transaction .0) 0 ≡ 0) × (mismatched (history (now journal) n) (opOf (n + 1) r) ≡ false) ⌝ }
+    requires { ⌜ Ready (now journal) n × Ended (now journal) n (now ends) × Written (now journal) n (now writes) × Sighted (now journal) n (now reads) × Linked (now journal) n (now links) × (malformed (items (now journal)) r ≡ false) × (r .kind ≡ 2) × (getD (now ends) (r .transaction .0) 0 ≡ 0) × (mismatched (history (now journal) n) (opOf (n + 1) r) ≡ false) × SightedTo (now journal) n ⌝ }
     ensures { λ v. ⌜ verdictOf v ≡ decide (ruleOrder (history (now (journal .entry)) n) (n + 1) (opOf (n + 1) r)) ⌝ }
 {
     let lsn = (n + 1) as u32;
@@ -261,7 +255,7 @@ pub fn judge_added(
     links: &[u32],
     r: Record,
 ) -> Verdict
-    requires { ⌜ Ready (now journal) n × Ended (now journal) n (now ends) × Written (now journal) n (now writes) × Sighted (now journal) n (now reads) × Linked (now journal) n (now links) × (malformed (items (now journal)) r ≡ false) × (mismatched (history (now journal) n) (opOf (n + 1) r) ≡ false) ⌝ }
+    requires { ⌜ Ready (now journal) n × Ended (now journal) n (now ends) × Written (now journal) n (now writes) × Sighted (now journal) n (now reads) × Linked (now journal) n (now links) × (malformed (items (now journal)) r ≡ false) × (mismatched (history (now journal) n) (opOf (n + 1) r) ≡ false) × SightedTo (now journal) n ⌝ }
     ensures { λ v. ⌜ verdictOf v ≡ decide (ruleOrder (history (now (journal .entry)) n) (n + 1) (opOf (n + 1) r)) ⌝ }
 {
     let lsn = (n + 1) as u32;
@@ -316,6 +310,13 @@ fn note_write(
     bases[x] = i as u32;
 }
 
+// The end that a commit or an abort is: 1 or 2.
+fn end_code(kind: u8) -> u8
+    ensures { λ r. ⌜ r ≡ cond (eqb kind 3) 1 2 ⌝ }
+{
+    if kind == 3 { 1 } else { 2 }
+}
+
 // Record n + 1 in the working arrays.
 pub fn note(
     journal: &[u8],
@@ -344,12 +345,8 @@ pub fn note(
             let writer = last_writer(journal, n, ends, writes, x, s);
             note_write(writes, bases, reads, x, i, writer.own);
         }
-        3 => {
-            ends[s] = 1;
+        _ => {
+            ends[s] = end_code(kind);
         }
-        4 => {
-            ends[s] = 2;
-        }
-        _ => {}
     }
 }

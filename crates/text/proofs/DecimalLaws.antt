@@ -1,7 +1,8 @@
 -- Decimals digit by digit, and how long they are.
 -- Assumes nothing.
 use mathlib.Core.Path.{_≡_, refl, sym, ap, _∙_}
-use mathlib.Core.List.{[], _∷_, _++_}
+use mathlib.Core.Bool.{true, false}
+use mathlib.Core.List.{List, [], _∷_, _++_, append-nil, flatten}
 use Prim.Native.Nat.{ℕ, zero, suc, _-_, _/_, _%_, _^_, _≤_, _<_}
 use native.Mathlib.Omega.{arith, pow-step}
 use lib.Dec.{ltb}
@@ -12,7 +13,9 @@ use Rattle.lists.proofs.BoolLaws.{byCases}
 use mir.Syntax.{w32}
 use mir.Val.{SFits}
 use Rattle.format.specs.Bytes.{bits}
-use Rattle.text.specs.Decimal.{digit, digits, decimal, decimalZ}
+use Rattle.text.specs.declared.Signed.{Signed}
+use Rattle.text.specs.Puts.{labelled}
+use Rattle.text.specs.Decimal.{digit, digits, decimal, decimalZ, decimalS}
 
 digits-few : (k n : ℕ) → n < 10 → digits (suc k) n ≡ digit n ∷ []
 unfolding digits
@@ -61,12 +64,34 @@ length-decimalZ (negsuc n) = omega (arith, length-decimal (suc n))
 
 -- ---- a signed number by its bits
 
-pub decimalZ-low : (z : ℤ) → SFits w32 z → bits z < 2147483648 → decimalZ z ≡ decimal (bits z)
+decimalZ-low : (z : ℤ) → SFits w32 z → bits z < 2147483648 → decimalZ z ≡ decimal (bits z)
 unfolding decimalZ
 decimalZ-low (pos n) f h = refl
 decimalZ-low (negsuc k) f h = absurd (omega (arith, f .sfits))
 
-pub decimalZ-high : (z : ℤ) → SFits w32 z → 2147483648 ≤ bits z → decimalZ z ≡ 45 ∷ decimal (4294967296 - bits z)
+decimalZ-high : (z : ℤ) → SFits w32 z → 2147483648 ≤ bits z → decimalZ z ≡ 45 ∷ decimal (4294967296 - bits z)
 unfolding decimalZ
 decimalZ-high (pos n) f h = absurd (omega (arith, f .sfits))
 decimalZ-high (negsuc k) f h = ap (λ n. 45 ∷ decimal n) (omega (arith, f .sfits))
+
+-- ---- by sign and size
+
+flatten-two : (v w : List ℕ) → flatten (v ∷ w ∷ []) ≡ v ++ w
+unfolding flatten
+flatten-two v w = ap (λ r. v ++ r) (append-nil w)
+
+pub decimalS-plus : (x : Signed) → x .minus ≡ false → decimalS x ≡ decimal (x .size)
+unfolding decimalS
+decimalS-plus x e = rw e
+
+pub decimalS-minus : (x : Signed) → x .minus ≡ true → decimalS x ≡ labelled (45 ∷ []) (decimal (x .size))
+unfolding decimalS
+decimalS-minus x e = rw e
+
+pub decimalS-low : (z : ℤ) → SFits w32 z → bits z < 2147483648 → decimalS (record { minus = false; size = bits z }) ≡ decimalZ z
+unfolding decimalS
+decimalS-low z f h = sym (decimalZ-low z f h)
+
+pub decimalS-high : (z : ℤ) → SFits w32 z → 2147483648 ≤ bits z → decimalS (record { minus = true; size = 4294967296 - bits z }) ≡ decimalZ z
+unfolding decimalS
+decimalS-high z f h = flatten-two (45 ∷ []) _ ∙ sym (decimalZ-high z f h)

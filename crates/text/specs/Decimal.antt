@@ -5,6 +5,8 @@ use mathlib.Core.List.{List, [], _∷_, _++_}
 use Prim.Native.Nat.{ℕ, zero, suc, _+_, _/_, _%_}
 use lib.Dec.{ltb}
 use lib.IntN.{ℤ, pos, negsuc}
+use Rattle.text.specs.Puts.{labelled}
+use Rattle.text.specs.declared.Signed.{Signed}
 
 -- the ASCII code of a digit
 abbrev pub digit : ℕ → ℕ
@@ -23,3 +25,7 @@ decimal n = digits 20 n
 unfoldable pub decimalZ : ℤ → List ℕ
 decimalZ (pos n) = decimal n
 decimalZ (negsuc n) = 45 ∷ decimal (suc n)
+
+-- .. as a sign and a size
+unfoldable pub decimalS : Signed → List ℕ
+decimalS x = cond (x .minus) (labelled (45 ∷ []) (decimal (x .size))) (decimal (x .size))

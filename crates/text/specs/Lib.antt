@@ -1,3 +1,3 @@
+pub mod Puts
 pub mod Decimal
 pub mod Lines
-pub mod Puts

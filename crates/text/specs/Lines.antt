@@ -1,9 +1,10 @@
 -- The lines of the report, to the byte: each ends in one newline.
 -- Document 01, "The program's day". Assumes nothing.
-use mathlib.Core.List.{List, [], _∷_, _++_}
+use mathlib.Core.List.{List, [], _∷_, flatten}
 use Prim.Native.Nat.{ℕ}
 use lib.IntN.{ℤ}
 use Rattle.text.specs.Decimal.{decimal, decimalZ}
+use Rattle.text.specs.Puts.{labelled}
 
 -- ---- the words, with the spaces beside them
 
@@ -41,29 +42,23 @@ newline = 10 ∷ []
 
 -- ---- the lines
 
--- a word with a number behind it
-abbrev pub labelled : List ℕ → ℕ → List ℕ
-labelled word n = word ++ decimal n
-
-abbrev pub labelledZ : List ℕ → ℤ → List ℕ
-labelledZ word z = word ++ decimalZ z
-
 -- JOURNAL n COPY m: the record counts
-unfoldable pub countLine : ℕ → ℕ → List ℕ
-countLine n m = labelled journalWord n ++ labelled copyWord m ++ newline
+abbrev pub countLine : ℕ → ℕ → List ℕ
+countLine n m = flatten (labelled journalWord (decimal n) ∷ labelled copyWord (decimal m) ∷ newline ∷ [])
 
 -- BACK s: a transaction (01: sale) taken back
-unfoldable pub undoneLine : ℕ → List ℕ
-undoneLine s = labelled backWord s ++ newline
+abbrev pub undoneLine : ℕ → List ℕ
+undoneLine s = flatten (labelled backWord (decimal s) ∷ newline ∷ [])
 
 -- ITEM x old new: an item and its amounts
-unfoldable pub changeLine : ℕ → ℤ → ℤ → List ℕ
-changeLine x old new = labelled itemWord x ++ labelledZ space old ++ labelledZ space new ++ newline
+abbrev pub changeLine : ℕ → ℤ → ℤ → List ℕ
+changeLine x old new = flatten (labelled itemWord (decimal x) ∷ labelled space (decimalZ old) ∷ labelled space (decimalZ new) ∷ newline ∷ [])
 
 -- END s u a: transactions surviving (01: kept), undone (taken back), aborted (dropped)
-unfoldable pub endLine : ℕ → ℕ → ℕ → List ℕ
-endLine surviving undone aborted = labelled endWord surviving ++ labelled space undone ++ labelled space aborted ++ newline
+abbrev pub endLine : ℕ → ℕ → ℕ → List ℕ
+endLine surviving undone aborted =
+    flatten (labelled endWord (decimal surviving) ∷ labelled space (decimal undone) ∷ labelled space (decimal aborted) ∷ newline ∷ [])
 
 -- REFUSED number place
-unfoldable pub refusedLine : ℕ → ℕ → List ℕ
-refusedLine number place = labelled refusedWord number ++ labelled space place ++ newline
+abbrev pub refusedLine : ℕ → ℕ → List ℕ
+refusedLine number place = flatten (labelled refusedWord (decimal number) ∷ labelled space (decimal place) ∷ newline ∷ [])

@@ -1,14 +1,14 @@
--- Codes of transactions: reads and stores behind the end, lists written from the front, flags and fates.
+-- Codes of transactions: lists written from the front, flags and fates.
 -- Assumes nothing.
 use mathlib.Core.Path.{_≡_, refl, sym, _∙_, ap}
-use mathlib.Core.Bool.{Bool, true, false, cond, _||_}
+use mathlib.Core.Bool.{false, cond}
 use mathlib.Core.List.{List, [], _∷_}
 use Prim.Native.Nat.{ℕ, zero, suc, _+_, _-_, _≤_, _<_}
 use native.Mathlib.Omega.{arith}
 use native.Mathlib.Numerals.{add-one}
 use lib.Dec.{eqb, ltb}
-use lib.ListN.{length, getD, set, drop, replicate, length-set, List·getD-eq-default}
-use lib.Seq.{set-out, drop-cons, drop-length, ext-getD, getD-set-same, getD-set-other}
+use lib.ListN.{length, getD, set, drop, replicate, length-set}
+use lib.Seq.{drop-cons, drop-length, ext-getD, getD-set-same, getD-set-other}
 use borrow.Author.Tests.{eqb-true, eqb-false, eq-eqb, ne-eqb, lt-ltb, le-ltb, ltb-true, ltb-false}
 use Rattle.lists.specs.Search.{member}
 use Rattle.lists.specs.Tables.{tabulate, number}
@@ -17,15 +17,7 @@ use Rattle.lists.proofs.TablesLaws.{length-tabulate, getD-tabulate, tabulate-ex
 use Rattle.rules.proofs.ArraysLaws.{getD-of, tabulate-zeros}
 use Rattle.trace.specs.Codes.{coded, partly, flagsOf, fateOf, fatesOf}
 
--- ---- behind the end
-
-pub none-behind : (l : List ℕ) (s : ℕ) → length l ≤ s → 0 ≡ getD l s 0
-none-behind l s h = sym (List·getD-eq-default l 0 {n = s} h)
-
 module _ {A : Type 0} where
-  pub set-behind : (l : List A) (s : ℕ) (v : A) → length l ≤ s → l ≡ set l s v
-  set-behind l s v h = sym (set-out l s v h)
-
   -- a list made by index, with one element stored, within it or not
   pub tabulate-put : (f g : ℕ → A) (n k : ℕ) (v d : A) → g k ≡ v → ((j : ℕ) → eqb j k ≡ false → g j ≡ f j) → set (tabulate f 0 n) k v ≡ tabulate g 0 n
   tabulate-put f g n k v d e o =
@@ -131,10 +123,6 @@ fates-step ends flags all zeros s e f v h n a b c d = rw (a, d, b, c) (partly-st
 pub fates-done : (ends flags all zeros : List ℕ) (s : ℕ) → 1025 ≤ s → length zeros ≡ 1025 → all ≡ partly (fateAt ends flags) s zeros → all ≡ fatesOf ends flags
 unfolding fatesOf
 fates-done ends flags all zeros s h n a = a ∙ partly-done (fateAt ends flags) zeros s (omega arith) ∙ ap (λ k. tabulate (fateAt ends flags) 0 k) n
-
-pub length-fates : (ends flags : List ℕ) → length (fatesOf ends flags) ≡ 1025
-unfolding fatesOf
-length-fates ends flags = length-tabulate _ 0 1025
 
 -- ---- how many have a code
 

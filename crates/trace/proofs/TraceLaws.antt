@@ -1,23 +1,22 @@
--- The trace: what one record does to the arrays, and the arrays after n records.
+-- The trace: what one record does to the arrays, and the arrays after n records, from any arrays and from the list.
 -- Assumes nothing.
-use mathlib.Core.Path.{_≡_, refl, sym, _∙_, ap}
+use mathlib.Core.Path.{_≡_, refl, _∙_, ap}
 use mathlib.Core.Bool.{Bool, true, false, cond, not, _&&_, and-false}
 use mathlib.Core.List.{List, [], _∷_}
-use mathlib.Core.Option.{Option, none, some}
-use Prim.Native.Nat.{ℕ, zero, suc, _+_, _*_, _≤_, _<_}
+use mathlib.Core.Option.{Option}
+use Prim.Native.Nat.{ℕ, zero, suc, _+_, _≤_, _<_}
 use native.Mathlib.Omega.{arith}
 use native.Mathlib.Numerals.{add-one}
 use lib.Dec.{eqb}
 use lib.ListN.{length, getD, set, replicate}
 use borrow.Author.Tests.{eqb-true, eq-eqb, ne-eqb}
-use Rattle.lists.specs.Search.{latest, member}
-use Rattle.lists.specs.Tables.{tabulate}
+use Rattle.lists.specs.Search.{member}
 use Rattle.lists.proofs.BoolLaws.{byCases}
-use Rattle.lists.proofs.TablesLaws.{length-tabulate}
 use Rattle.format.specs.declared.Record.{Record}
 use Rattle.format.specs.Layout.{recordAt}
-use Rattle.model.specs.History.{Op, History, Amount, read, write, commit, abort, other, txOf}
-use Rattle.model.specs.Undo.{writeBy}
+use Rattle.model.specs.History.{Op, History, read, write, commit, abort, other}
+use Rattle.model.specs.Undo.{feeds, feedBy}
+use Rattle.model.proofs.FedLaws.{feeds-write}
 use Rattle.journal.specs.Journal.{items, txIn, opOf, history}
 use Rattle.journal.proofs.Records.{txOf-opOf, history-zero, history-suc}
 use Rattle.journal.specs.Refusals.{malformed}
@@ -26,8 +25,8 @@ use Rattle.rules.proofs.Found.{Found, nothing, at, latest-found, passed-right, 
 use Rattle.rules.proofs.RuleLaws.{item-read}
 use Rattle.rules.proofs.ArraysLaws.{getD-of, tabulate-zeros, tabulate-same, op-read, op-write}
 use Rattle.trace.specs.Codes.{coded, flagsOf}
-use Rattle.trace.specs.Trace.{writerIn, feeder, feedersOf, traced, flagsRead, feedersWrite, flagsAfter, feedersAfter}
-use Rattle.trace.proofs.CodesLaws.{tabulate-put, flags-start, flags-more, flag-member, length-flags}
+use Rattle.trace.specs.Trace.{writerIn, feeder, feedersOf, traced, flagsRead, feedersWrite, flagsAfter, feedersAfter, feedersFrom, flagsFrom}
+use Rattle.trace.proofs.CodesLaws.{tabulate-put, flags-more, flag-member, length-flags}
 
 -- ---- one read, one write
 
@@ -74,7 +73,7 @@ module _ (i : ℕ) (r q : Record) (h : r ≡ q) (ends feeders flags : List ℕ) 
 
   pub feeders-write : (l : List ℕ) → r .kind ≡ 2 → l ≡ feedersWrite ends (txIn r) (r .item .0) feeders → l ≡ feedersAfter (opOf i q) ends feeders
   unfolding feedersAfter
-  feeders-write l k e = e ∙ rw (← h, op-write i r k)
+  feeders-write l k e = e ∙ rw (← h, op-write i r k, feeds-write i (txIn r) (r .item .0) (r .before) (r .after))
 
   pub flags-other : (r .kind ≡ 1 → ⊥) → (r .kind ≡ 2 → ⊥) → flags ≡ flagsAfter (opOf i q) feeders flags
   unfolding flagsAfter opOf
@@ -94,29 +93,25 @@ module _ (i : ℕ) (r q : Record) (h : r ≡ q) (ends feeders flags : List ℕ) 
       two false true = refl
       two false false = refl
 
--- ---- after n records
-
-pub feeders-start : (c : ℕ → Bool) (b : List ℕ) → replicate 1024 0 ≡ feedersOf c (history b 0)
-unfolding feedersOf
-feeders-start c b = rw (history-zero b) (tabulate-zeros _ 1024 (λ j. refl))
-
-pub flags-listed : (c : ℕ → Bool) (b bad flags : List ℕ) → flags ≡ flagsOf bad → flags ≡ flagsOf (traced c bad (history b 0))
-flags-listed c b bad flags e = rw (history-zero b) e
-
-pub feeders-count : (c : ℕ → Bool) (p : History) (l : List ℕ) → l ≡ feedersOf c p → 1024 ≡ length l
-unfolding feedersOf
-feeders-count c p l e = rw (e, length-tabulate (feeder c p) 0 1024)
+-- ---- the arrays after p
 
 pub flags-count : (m l : List ℕ) → l ≡ flagsOf m → 1025 ≡ length l
 flags-count m l e = rw (e, length-flags m)
+
+feeders-start : (c : ℕ → Bool) → replicate 1024 0 ≡ feedersOf c []
+unfolding feedersOf
+feeders-start c = tabulate-zeros _ 1024 (λ j. refl)
 
 feeders-op : (ends : List ℕ) (p : History) (r : Op) → feedersAfter r ends (feedersOf (coded 1 ends) p) ≡ feedersOf (coded 1 ends) (r ∷ p)
 unfolding feedersAfter feedersWrite feedersOf
 feeders-op ends p (read t s x) = tabulate-same _ _ 1024 (λ j. refl)
 feeders-op ends p (write t s x b a) =
-    byCases (coded 1 ends s)
-    (λ e. rw e (tabulate-put (feeder (coded 1 ends) p) (feeder (coded 1 ends) (write t s x b a ∷ p)) 1024 x s 0 (rw (eq-eqb x x refl, e)) (λ j q. rw q)))
-    (λ e. rw e (tabulate-same _ _ 1024 (λ j. rw (e, and-false (eqb j x)))))
+    byCases (feeds (write t s x b a))
+    (λ f. rw f
+    (byCases (coded 1 ends s)
+    (λ e. rw e (tabulate-put (feeder (coded 1 ends) p) (feeder (coded 1 ends) (write t s x b a ∷ p)) 1024 x s 0 (rw (eq-eqb x x refl, e, f)) (λ j q. rw q)))
+    (λ e. rw e (tabulate-same _ _ 1024 (λ j. rw (e, and-false (eqb j x)))))))
+    (λ f. rw f (tabulate-same _ _ 1024 (λ j. rw (f, and-false (eqb j x && coded 1 ends s)))))
 feeders-op ends p (commit t s) = tabulate-same _ _ 1024 (λ j. refl)
 feeders-op ends p (abort t s) = tabulate-same _ _ 1024 (λ j. refl)
 feeders-op ends p (other t s) = tabulate-same _ _ 1024 (λ j. refl)
@@ -152,7 +147,7 @@ module _ (b : List ℕ) (n i : ℕ) (k : Ready b n) (h : i < n) where
   narrow-at c =
       let r = recordAt b (suc i) in
       byCases (eqb (r .kind) 1)
-      (λ e. rw e (item-read b n r k formed-at (eqb-true (r .kind) 1 e), writer-range b n i k (omega arith) (latest-found (writeBy c (r .item .0)) b i)))
+      (λ e. rw e (item-read b n r k formed-at (eqb-true (r .kind) 1 e), writer-range b n i k (omega arith) (latest-found (feedBy feeds c (r .item .0)) b i)))
       (λ e. rw e (three r (eqb (r .kind) 2) (eqb (r .kind) 3) (eqb (r .kind) 4)))
     where
       three : (r : Record) (l m o : Bool) → Narrow c (history b i) (cond l (write (suc i) (txIn r) (r .item .0) (r .before) (r .after)) (cond m (commit (suc i) (txIn r)) (cond o (abort (suc i) (txIn r)) (other (suc i) (txIn r)))))
@@ -161,17 +156,50 @@ module _ (b : List ℕ) (n i : ℕ) (k : Ready b n) (h : i < n) where
       three r false false true = tt
       three r false false false = tt
 
-  module _ (ends : List ℕ) (feeders : List ℕ) (e : feeders ≡ feedersOf (coded 1 ends) (history b i)) where
-    pub feeders-step : (l : List ℕ) → l ≡ feedersAfter (opOf (i + 1) (recordAt b (i + 1))) ends feeders → l ≡ feedersOf (coded 1 ends) (history b (i + 1))
-    feeders-step l q =
-        let z = add-one i in
-        q ∙ rw (z, e, history-suc b i) (feeders-op ends (history b i) (opOf (suc i) (recordAt b (suc i))))
+-- ---- the pass
 
-    pub flags-step : (bad flags l : List ℕ) → flags ≡ flagsOf (traced (coded 1 ends) bad (history b i)) → l ≡ flagsAfter (opOf (i + 1) (recordAt b (i + 1))) feeders flags
-        → l ≡ flagsOf (traced (coded 1 ends) bad (history b (i + 1)))
-    flags-step bad flags l f q =
-        let z = add-one i in
-        q ∙ rw (z, e, f, history-suc b i) (flags-op (coded 1 ends) bad (history b i) (opOf (suc i) (recordAt b (suc i))) (narrow-at (coded 1 ends)))
+pub feeders-first : (b ends feeders : List ℕ) → feeders ≡ feedersFrom ends (history b 0) feeders
+unfolding feedersFrom
+feeders-first b ends feeders = rw history-zero
 
-pub trace-done : (b ends bad flags : List ℕ) (n i : ℕ) → i ≤ n → n ≤ i → flags ≡ flagsOf (traced (coded 1 ends) bad (history b i)) → flags ≡ flagsOf (traced (coded 1 ends) bad (history b n))
-trace-done b ends bad flags n i h l e = let z : n ≡ i = omega arith in rw z e
+pub flags-first : (b ends feeders flags : List ℕ) → flags ≡ flagsFrom ends (history b 0) feeders flags
+unfolding flagsFrom
+flags-first b ends feeders flags = rw history-zero
+
+module _ (b : List ℕ) (i : ℕ) (ends feeders₀ feeders : List ℕ) (e : feeders ≡ feedersFrom ends (history b i) feeders₀) where
+  pub feeders-step : (l : List ℕ) → l ≡ feedersAfter (opOf (i + 1) (recordAt b (i + 1))) ends feeders → l ≡ feedersFrom ends (history b (i + 1)) feeders₀
+  unfolding feedersFrom
+  feeders-step l q = let z = add-one i in q ∙ rw (z, e, history-suc b i)
+
+  pub flags-step : (flags₀ flags l : List ℕ) → flags ≡ flagsFrom ends (history b i) feeders₀ flags₀ → l ≡ flagsAfter (opOf (i + 1) (recordAt b (i + 1))) feeders flags
+      → l ≡ flagsFrom ends (history b (i + 1)) feeders₀ flags₀
+  unfolding flagsFrom
+  flags-step flags₀ flags l f q = let z = add-one i in q ∙ rw (z, e, f, history-suc b i)
+
+pub feeders-done : (b ends feeders₀ feeders : List ℕ) (n i : ℕ) → i ≤ n → n ≤ i → feeders ≡ feedersFrom ends (history b i) feeders₀ → feeders ≡ feedersFrom ends (history b n) feeders₀
+feeders-done b ends feeders₀ feeders n i h l e = let z : n ≡ i = omega arith in rw z e
+
+pub flags-done : (b ends feeders₀ flags₀ flags : List ℕ) (n i : ℕ) → i ≤ n → n ≤ i → flags ≡ flagsFrom ends (history b i) feeders₀ flags₀ → flags ≡ flagsFrom ends (history b n) feeders₀ flags₀
+flags-done b ends feeders₀ flags₀ flags n i h l e = let z : n ≡ i = omega arith in rw z e
+
+-- from no feeder at all and the flags of the list it is the trace
+
+feeders-all : (b ends : List ℕ) (n : ℕ) → feedersFrom ends (history b n) (replicate 1024 0) ≡ feedersOf (coded 1 ends) (history b n)
+unfolding feedersFrom
+feeders-all b ends zero = rw history-zero (feeders-start (coded 1 ends))
+feeders-all b ends (suc n) =
+    rw (history-suc b n)
+    (ap (feedersAfter (opOf (suc n) (recordAt b (suc n))) ends) (feeders-all b ends n) ∙ feeders-op ends (history b n) (opOf (suc n) (recordAt b (suc n))))
+
+flags-all : (b ends bad : List ℕ) (n i : ℕ) → Ready b n → i ≤ n
+    → flagsFrom ends (history b i) (replicate 1024 0) (flagsOf bad) ≡ flagsOf (traced (coded 1 ends) bad (history b i))
+unfolding flagsFrom
+flags-all b ends bad n zero k h = rw history-zero
+flags-all b ends bad n (suc i) k h =
+    rw (history-suc b i)
+    (rw (feeders-all b ends i, flags-all b ends bad n i k (omega arith))
+    (flags-op (coded 1 ends) bad (history b i) (opOf (suc i) (recordAt b (suc i))) (narrow-at b n i k (omega arith) (coded 1 ends))))
+
+pub trace-done : (b ends bad flags₀ flags : List ℕ) (n : ℕ) → Ready b n → flags₀ ≡ flagsOf bad → flags ≡ flagsFrom ends (history b n) (replicate 1024 0) flags₀
+    → flags ≡ flagsOf (traced (coded 1 ends) bad (history b n))
+trace-done b ends bad flags₀ flags n k f e = e ∙ rw f (flags-all b ends bad n n k (omega arith))

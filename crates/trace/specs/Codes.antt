@@ -1,16 +1,13 @@
 -- Working arrays: a code for each transaction, and lists written from the front.
 -- Assumes nothing.
-use mathlib.Core.Bool.{Bool, cond}
+use mathlib.Core.Bool.{cond}
 use mathlib.Core.List.{List}
 use Prim.Native.Nat.{ℕ}
 use lib.Dec.{eqb, ltb}
 use lib.ListN.{length, getD}
 use Rattle.lists.specs.Search.{member}
 use Rattle.lists.specs.Tables.{tabulate}
-
--- transaction s has the code v
-unfoldable pub coded : ℕ → List ℕ → ℕ → Bool
-coded v l s = eqb (getD l s 0) v
+unfoldable pub use Rattle.lists.specs.Tables.{coded}
 
 -- l with f 0, f 1, .. in place of its first i elements
 unfoldable pub partly : (ℕ → ℕ) → ℕ → List ℕ → List ℕ

@@ -7,29 +7,11 @@ ghost use Rattle.journal.specs.Journal.{opOf, history};
 ghost use Rattle.journal.specs.Calls.{statuses};
 ghost use Rattle.rules.specs.Arrays.{Ready, endsOf};
 ghost use Rattle.trace.specs.Codes.{coded, flagsOf, fateOf, fatesOf};
-ghost use Rattle.trace.specs.Trace.{traced, flagsRead, feedersWrite, flagsAfter, feedersAfter};
+ghost use Rattle.trace.specs.Trace.{traced, flagsRead, feedersWrite, flagsAfter, feedersAfter, feedersFrom, flagsFrom};
 use format::record_at;
-
-// The code of transaction s; 0 above the last.
-pub fn code_at(codes: &[u8], s: usize) -> u8
-    ensures { λ r. ⌜ r ≡ getD (now (codes .entry)) s 0 ⌝ }
-{
-    if s < codes.len() { codes[s] } else { 0 }
-}
-
-pub fn set_code(codes: &mut [u8], s: usize, v: u8)
-    ensures { λ _. ⌜ now (codes .exit) ≡ set (now (codes .entry)) s v ⌝ }
-{
-    if s < codes.len() {
-        codes[s] = v;
-    }
-}
-
-pub fn wide(s: u16) -> usize
-    ensures { λ r. ⌜ r ≡ s ⌝ }
-{
-    s as usize
-}
+use lists::code_at;
+use lists::set_code;
+use lists::wide;
 
 // A flag for each listed transaction.
 fn listed(bad: &[u16]) -> [u8; 1025]
@@ -105,6 +87,18 @@ fn trace_record(journal: &[u8], n: usize, ends: &[u8], feeders: &mut [u16], flag
     }
 }
 
+// Records 1 to n in the trace, from any feeders and any flags.
+pub fn trace_records(journal: &[u8], n: usize, ends: &[u8], feeders: &mut [u16], flags: &mut [u8])
+    requires { ⌜ (20 * n + 20 ≤ length (now journal)) × (n ≤ 3200) ⌝ }
+    ensures { λ _. ⌜ (now (feeders .exit) ≡ feedersFrom (now (ends .entry)) (history (now (journal .entry)) n) (now (feeders .entry))) × (now (flags .exit) ≡ flagsFrom (now (ends .entry)) (history (now (journal .entry)) n) (now (feeders .entry)) (now (flags .entry))) ⌝ }
+{
+    let mut i = 0;
+    while i < n {
+        trace_record(journal, i, ends, feeders, flags);
+        i += 1;
+    }
+}
+
 // A flag for each transaction reached from the list.
 fn trace(journal: &[u8], n: usize, ends: &[u8], bad: &[u16]) -> [u8; 1025]
     requires { ⌜ Ready (now journal) n ⌝ }
@@ -112,11 +106,7 @@ fn trace(journal: &[u8], n: usize, ends: &[u8], bad: &[u16]) -> [u8; 1025]
 {
     let mut flags = listed(bad);
     let mut feeders = [0u16; 1024];
-    let mut i = 0;
-    while i < n {
-        trace_record(journal, i, ends, &mut feeders, &mut flags);
-        i += 1;
-    }
+    trace_records(journal, n, ends, &mut feeders, &mut flags);
     flags
 }
 

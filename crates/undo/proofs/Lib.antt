@@ -1,3 +1,1 @@
-pub mod StagesLaws
-pub mod Examining
 pub mod ResultLaws

@@ -10,24 +10,24 @@ use native.Mathlib.Numerals.{add-one}
 use lib.IntN.{pos}
 use lib.Dec.{eqb}
 use lib.ListN.{getD}
-use borrow.Author.Tests.{ne-eqb}
+use borrow.Author.Tests.{ne-eqb, not-true, not-false}
 use mir.Syntax.{w32}
 use mir.Val.{toZ, ofZ, SFits}
 use mir.ValLaws.{toZ-ofZ}
-use Rattle.lists.specs.Search.{any, first, orElse}
-use Rattle.lists.specs.Tables.{each, number}
+use Rattle.lists.specs.Search.{any, first}
+use Rattle.lists.specs.Tables.{number}
 use Rattle.lists.proofs.BoolLaws.{byCases}
-use Rattle.lists.proofs.SearchLaws.{first-none, first-some}
-use Rattle.lists.proofs.TablesLaws.{each-zero, each-suc, number-zero, number-last, number-ext}
+use Rattle.lists.proofs.SearchLaws.{latest-none, any-latest, latest-passes, first-none, first-some}
+use Rattle.lists.proofs.TablesLaws.{number-zero, number-last, number-ext}
 use Rattle.model.specs.History.{Op, Amount, sameAmount, writeTo, ofTx, tagIn, active, standing}
+use Rattle.journal.specs.Inputs.{lent}
 use Rattle.journal.specs.Journal.{count, items, history, whole, amountAt}
 use Rattle.journal.specs.Refusals.{unsettled}
-use Rattle.journal.specs.Orders.{Order, try, decide, settledOrder}
-use Rattle.journal.proofs.OrdersLaws.{decide-append}
-use Rattle.fields.proofs.OrderLaws.{decide-try}
+use Rattle.journal.specs.Orders.{tryEach, settledOrder, decide}
+use Rattle.journal.proofs.OrdersLaws.{tried-passed, tried-refused}
 use Rattle.rules.specs.Recent.{endCode}
 use Rattle.rules.specs.Arrays.{Ready, endsOf, firstsOf, writesOf}
-use Rattle.rules.proofs.Recent.{latest-none, any-latest, latest-passes, active-code}
+use Rattle.rules.proofs.Recent.{active-code}
 use Rattle.rules.proofs.Found.{first-found, found-none}
 use Rattle.rules.proofs.ArraysLaws.{ends-at, firsts-at}
 use Rattle.rules.proofs.ReadersLaws.{last-none, last-some}
@@ -59,37 +59,18 @@ module _ (b : List ℕ) (n x j : ℕ) (l : List ℕ) (t : List Amount) (k : Read
       twice true = refl
       twice false = refl
 
-each-from : (f : ℕ → Order) (i n : ℕ) → i < n → decide (each f i (n - i)) ≡ orElse (decide (f i)) (decide (each f (i + 1) (n - (i + 1))))
-each-from f i n h =
-    let e : n - i ≡ suc (n - (i + 1)) = omega arith in
-    rw (e, each-suc f i (n - (i + 1)), add-one) (decide-append (f i) _)
-
-abbrev pub tenth : List ℕ → List Amount → ℕ → Order
-tenth b t x = try 10 x (unsettled b t x)
-
+-- the loop over the items: p tests item x
 module _ (b : List ℕ) (t : List Amount) where
-  pub settle-start : (m : ℕ) → m ≡ items b → decide (settledOrder b t) ≡ decide (each (tenth b t) 0 (m - 0))
+  pub settle-start : (m : ℕ) → m ≡ items b → decide (settledOrder (lent b t)) ≡ decide (tryEach 10 (unsettled b t) 0 (m - 0))
   unfolding settledOrder
   settle-start m e = let f : m - 0 ≡ items b = omega arith in rw f
 
-  module _ (x m : ℕ) (l : decide (settledOrder b t) ≡ decide (each (tenth b t) x (m - x))) where
-    pub settle-done : m ≤ x → none ≡ decide (settledOrder b t)
-    unfolding decide
-    settle-done h = sym (l ∙ (let e : m - x ≡ 0 = omega arith in rw (e, each-zero (tenth b t) x)))
+  module _ (x m : ℕ) (l : decide (settledOrder (lent b t)) ≡ decide (tryEach 10 (unsettled b t) x (m - x))) (h : x < m) (p : Bool) (q : p ≡ not (unsettled b t x)) where
+    pub settle-more : p ≡ true → decide (settledOrder (lent b t)) ≡ decide (tryEach 10 (unsettled b t) (x + 1) (m - (x + 1)))
+    settle-more e = tried-passed 10 (unsettled b t) x m (decide (settledOrder (lent b t))) l h (not-true _ (sym q ∙ e))
 
-    module _ (h : x < m) (p : Bool) (q : p ≡ not (unsettled b t x)) where
-      step : decide (settledOrder b t) ≡ orElse (cond (not p) (some (record { number = 10; place = x })) none) (decide (each (tenth b t) (x + 1) (m - (x + 1))))
-      step = l ∙ each-from (tenth b t) x m h ∙ rw (decide-try 10 x (unsettled b t x), q) (ap (λ c. orElse (cond c (some (record { number = 10; place = x })) none) (decide (each (tenth b t) (x + 1) (m - (x + 1))))) (twice (unsettled b t x)))
-        where
-          twice : (u : Bool) → u ≡ not (not u)
-          twice true = refl
-          twice false = refl
-
-      pub settle-more : p ≡ true → decide (settledOrder b t) ≡ decide (each (tenth b t) (x + 1) (m - (x + 1)))
-      settle-more e = step ∙ rw e
-
-      pub settle-refused : p ≡ false → some (record { number = 10; place = x }) ≡ decide (settledOrder b t)
-      settle-refused e = sym (step ∙ rw e)
+    pub settle-refused : p ≡ false → some (record { number = 10; place = x }) ≡ decide (settledOrder (lent b t))
+    settle-refused e = tried-refused 10 (unsettled b t) x m (decide (settledOrder (lent b t))) l h (not-false _ (sym q ∙ e))
 
 -- ---- active transactions
 

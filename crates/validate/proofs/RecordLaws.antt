@@ -1,9 +1,9 @@
 -- Rules 4 to 9 of one record: its fields, its next, then 6 to 9.
 -- Assumes nothing.
-use mathlib.Core.Path.{_≡_, refl, sym, _∙_}
+use mathlib.Core.Path.{_≡_, sym, _∙_}
 use mathlib.Core.Bool.{Bool, true, false, cond, not}
 use mathlib.Core.List.{List}
-use mathlib.Core.Option.{Option, none, some}
+use mathlib.Core.Option.{Option, none}
 use Prim.Native.Nat.{ℕ, zero, suc, _+_, _<_, _≤_}
 use native.Mathlib.Omega.{arith}
 use native.Mathlib.Numerals.{add-one}
@@ -14,28 +14,19 @@ use Rattle.format.specs.declared.Record.{Record}
 use Rattle.format.specs.Layout.{recordAt}
 use Rattle.journal.specs.Journal.{items, opOf, history}
 use Rattle.journal.specs.Refusals.{malformed, unchained}
-use Rattle.journal.specs.Orders.{Refusal, decide, recordOrder}
-use Rattle.journal.proofs.OrdersLaws.{decide-append}
-use Rattle.fields.proofs.OrderLaws.{decide-try}
+use Rattle.journal.specs.Orders.{Refusal, ruleOrder, recordOrder, decide}
+use Rattle.journal.proofs.OrdersLaws.{orElse-none, decide-try, decide-turn, decide-over}
 use Rattle.fields.proofs.Fields.{formed-range}
 use Rattle.rules.specs.Arrays.{Ready}
-use Rattle.rules.specs.Answers.{ruleOrder}
 use Rattle.rules.proofs.Found.{passed-right}
-use Rattle.rules.proofs.RuleLaws.{at, rule-parts}
+use Rattle.rules.proofs.RuleLaws.{at}
 use Rattle.validate.specs.Chain.{lowestBroken}
 use Rattle.validate.proofs.Chain.{lowest-here}
 
 record-parts : (b : List ℕ) (n : ℕ)
     → decide (recordOrder b (n + 1)) ≡ orElse (cond (malformed (items b) (recordAt b (n + 1))) (at 4 (n + 1)) none) (orElse (cond (unchained b (n + 1)) (at 5 (n + 1)) none) (decide (ruleOrder (history b n) (n + 1) (opOf (n + 1) (recordAt b (n + 1))))))
 unfolding recordOrder
-record-parts b n =
-    rw (add-one, rule-parts (history b n) (suc n) (opOf (suc n) (recordAt b (suc n))))
-    (simp (decide-append, decide-try) (apart (cond (malformed (items b) (recordAt b (suc n))) (at 4 (suc n)) none) (cond (unchained b (suc n)) (at 5 (suc n)) none) _ _ _ _))
-  where
-    apart : (p q r s t u : Option Refusal) → orElse (orElse (orElse (orElse (orElse p q) r) s) t) u ≡ orElse p (orElse q (orElse (orElse (orElse r s) t) u))
-    apart none none r s t u = refl
-    apart none (some x) r s t u = refl
-    apart (some x) q r s t u = refl
+record-parts b n = rw add-one (simp (decide-turn, decide-over, decide-try, orElse-none))
 
 module _ (b : List ℕ) (n m : ℕ) (r : Record) (h : Bool) (k : Ready b n) (e : r ≡ recordAt b (n + 1)) (j : m ≡ items b) (g : h ≡ not (malformed m r)) where
   pub record-malformed : h ≡ false → at 4 (n + 1) ≡ decide (recordOrder b (n + 1))

@@ -6,13 +6,14 @@ ghost use Prim.Native.Nat.{_+_, _*_, _≤_, _<_};
 ghost use lib.ListN.{length};
 ghost use Rattle.lists.specs.Tables.{number};
 ghost use Rattle.format.specs.Layout.{recordAt};
+ghost use Rattle.journal.specs.Inputs.{lent};
 ghost use Rattle.journal.specs.Journal.{count, items};
 ghost use Rattle.journal.specs.Refusals.{unsettled};
 ghost use Rattle.journal.specs.Orders.{decide, recordOrder, recordsOrder, settledOrder, checkOrder};
 ghost use Rattle.journal.specs.Calls as calls;
 ghost use Rattle.journal.specs.Calls.{answered};
 ghost use Rattle.fields.specs.Answers.{Opened, headerOf, sizeOf};
-ghost use Rattle.rules.specs.Arrays.{Ready, Ended, Written, Based, Sighted, Linked, State};
+ghost use Rattle.rules.specs.Arrays.{Ready, SightedTo, Ended, Written, Based, Sighted, Linked, State};
 ghost use Rattle.rules.specs.Answers.{verdictOf};
 ghost use Rattle.validate.specs.Chain.{nextsOf, broken, lowestBroken};
 ghost use Rattle.validate.specs.Answers.{answerOf, laterOrder, activeIn};
@@ -27,8 +28,8 @@ use format::next_at;
 use format::record_at;
 use format::transaction_at;
 use journal::Reason;
+use lists::at;
 use rules::Verdict;
-use rules::at;
 use rules::judge;
 use rules::note;
 use rules::standing_at;
@@ -84,7 +85,7 @@ fn check_record(
     links: &[u32],
     r: Record,
 ) -> Verdict
-    requires { ⌜ Ready (now journal) n × Ended (now journal) n (now ends) × Written (now journal) n (now writes) × Based (now journal) n (now bases) × Sighted (now journal) n (now reads) × Linked (now journal) n (now links) × (keys ≡ items (now journal)) × (low ≡ lowestBroken (now journal) 1 (count (now journal))) × (n < count (now journal)) × (r ≡ recordAt (now journal) (n + 1)) ⌝ }
+    requires { ⌜ Ready (now journal) n × Ended (now journal) n (now ends) × Written (now journal) n (now writes) × Based (now journal) n (now bases) × Sighted (now journal) n (now reads) × Linked (now journal) n (now links) × (keys ≡ items (now journal)) × (low ≡ lowestBroken (now journal) 1 (count (now journal))) × (n < count (now journal)) × (r ≡ recordAt (now journal) (n + 1)) × SightedTo (now journal) n ⌝ }
     ensures { λ v. ⌜ verdictOf v ≡ decide (recordOrder (now (journal .entry)) (n + 1)) ⌝ }
 {
     let i = n + 1;
@@ -162,7 +163,7 @@ pub fn final_state(
     bases: &[u32],
 ) -> Verdict
     requires { ⌜ Ready (now journal) n × (n ≡ count (now journal)) × Ended (now journal) n (now ends) × Written (now journal) n (now writes) × Based (now journal) n (now bases) × (length (now table) ≡ items (now journal)) ⌝ }
-    ensures { λ v. ⌜ verdictOf v ≡ decide (settledOrder (now (journal .entry)) (now (table .entry))) ⌝ }
+    ensures { λ v. ⌜ verdictOf v ≡ decide (settledOrder (lent (now (journal .entry)) (now (table .entry)))) ⌝ }
 {
     let mut x = 0;
     while x < table.len() {
@@ -176,7 +177,7 @@ pub fn final_state(
 }
 
 // Transaction s has a record and no end.
-fn is_active(ends: &[u8], firsts: &[u32], s: usize) -> bool
+pub fn is_active(ends: &[u8], firsts: &[u32], s: usize) -> bool
     requires { ⌜ (s < length (now ends)) × (s < length (now firsts)) ⌝ }
     ensures { λ r. ⌜ r ≡ activeIn (now (ends .entry)) (now (firsts .entry)) s ⌝ }
 {
@@ -184,7 +185,7 @@ fn is_active(ends: &[u8], firsts: &[u32], s: usize) -> bool
 }
 
 // How many transactions are active.
-pub fn active_count(ends: &[u8], firsts: &[u32]) -> u32
+fn active_count(ends: &[u8], firsts: &[u32]) -> u32
     requires { ⌜ (length (now ends) ≡ 1025) × (length (now firsts) ≡ 1025) ⌝ }
     ensures { λ r. ⌜ r ≡ number (activeIn (now (ends .entry)) (now (firsts .entry))) 1 1024 ⌝ }
 {
@@ -213,7 +214,7 @@ fn verify_records(
     links: &mut [u32],
 ) -> Verdict
     requires { ⌜ Opened (now journal) n keys × (length (now table) ≡ keys) × State (now journal) 0 (now ends) (now firsts) (now writes) (now bases) (now reads) (now links) ⌝ }
-    ensures { λ v. ⌜ (verdictOf v ≡ decide (laterOrder (now (journal .entry)) (now (table .entry)))) × (verdictOf v ≡ none → State (now (journal .entry)) n (now (ends .exit)) (now (firsts .exit)) (now (writes .exit)) (now (bases .exit)) (now (reads .exit)) (now (links .exit))) ⌝ }
+    ensures { λ v. ⌜ (verdictOf v ≡ decide (laterOrder (lent (now (journal .entry)) (now (table .entry))))) × (verdictOf v ≡ none → State (now (journal .entry)) n (now (ends .exit)) (now (firsts .exit)) (now (writes .exit)) (now (bases .exit)) (now (reads .exit)) (now (links .exit))) ⌝ }
 {
     let passed = records(journal, n, keys, ends, firsts, writes, bases, reads, links);
     let Verdict::Passed = passed else {
@@ -234,7 +235,7 @@ pub fn verify(
     links: &mut [u32],
 ) -> Headed
     requires { ⌜ State (now journal) 0 (now ends) (now firsts) (now writes) (now bases) (now reads) (now links) ⌝ }
-    ensures { λ r. ⌜ (headerOf r ≡ answered (decide (checkOrder (now (journal .entry)) (now (table .entry)))) (sizeOf (now (journal .entry)))) × (decide (checkOrder (now (journal .entry)) (now (table .entry))) ≡ none → State (now (journal .entry)) (count (now (journal .entry))) (now (ends .exit)) (now (firsts .exit)) (now (writes .exit)) (now (bases .exit)) (now (reads .exit)) (now (links .exit))) ⌝ }
+    ensures { λ r. ⌜ (headerOf r ≡ answered (decide (checkOrder (lent (now (journal .entry)) (now (table .entry))))) (sizeOf (now (journal .entry)))) × (decide (checkOrder (lent (now (journal .entry)) (now (table .entry)))) ≡ none → State (now (journal .entry)) (count (now (journal .entry))) (now (ends .exit)) (now (firsts .exit)) (now (writes .exit)) (now (bases .exit)) (now (reads .exit)) (now (links .exit))) ⌝ }
 {
     let head = header(journal);
     let Headed::Counts(n, keys) = head else {
@@ -267,7 +268,7 @@ pub fn verify(
 
 // How many transactions are active, or the first refusal of 1 to 10 in document 01's order.
 pub fn check(journal: &[u8], table: &[i32]) -> Checked
-    ensures { λ r. ⌜ answerOf r ≡ calls.check (now (journal .entry)) (now (table .entry)) ⌝ }
+    ensures { λ r. ⌜ answerOf r ≡ calls.check (lent (now (journal .entry)) (now (table .entry))) ⌝ }
 {
     let mut ends = [0u8; 1025];
     let mut firsts = [0u32; 1025];

@@ -1,6 +1,6 @@
 //! The proved calls through their Rust binding (`bindings/rust`), with the types of the linear version.
 
-use journal::Counts;
+use journal::{Counts, Item, Transaction};
 use plain::{Refusal, Undone};
 
 pub fn check(journal: &[u8], table: &[i32]) -> Result<u32, Refusal> {
@@ -14,6 +14,7 @@ pub fn undo(
     status: &mut [u8],
     out: &mut [u8],
 ) -> Result<Undone, Refusal> {
+    let bad = Transaction::list(bad);
     let totals = journal::undo(journal, table, bad, status, out).map_err(refusal)?;
     Ok(Undone {
         surviving: totals.surviving,
@@ -39,6 +40,7 @@ pub fn append(
         commits,
         aborts,
     };
+    let (transaction, item) = (Transaction(transaction), Item(item));
     let answer = journal::append(journal, table, &mut now, kind, transaction, item, after);
     *counts = [now.reads, now.writes, now.commits, now.aborts];
     answer.map_err(refusal)
@@ -47,6 +49,6 @@ pub fn append(
 fn refusal(refusal: journal::Refusal) -> Refusal {
     Refusal {
         number: refusal.number,
-        place: refusal.place,
+        place: refusal.place.number(),
     }
 }

@@ -4,11 +4,9 @@
 
 use journal::raw;
 
-// SAFETY, for every call below: each pointer comes from a reference that lives through the call,
-// with the length of its slice, and no two loans overlap.
-
 /// Starts a journal; answers 0.
 pub fn start(journal: &mut [u8], items: u32, answer: &mut u64) -> u32 {
+    // SAFETY: `journal` and `answer` are borrowed alone through the call; the length is the slice's.
     unsafe { raw::journal_start(journal.as_mut_ptr(), journal.len(), items, answer) }
 }
 
@@ -24,6 +22,7 @@ pub fn append(
     after: i32,
     answer: &mut u64,
 ) -> u32 {
+    // SAFETY: all four loans are borrowed alone through the call; each length is its slice's.
     unsafe {
         raw::journal_append(
             journal.as_mut_ptr(),
@@ -42,6 +41,8 @@ pub fn append(
 
 /// Checks a journal with its table; answers how many transactions are active (01: open).
 pub fn check(journal: &[u8], table: &[i32], answer: &mut u64) -> u32 {
+    // SAFETY: journal and table are borrowed through the call and only read, `answer` is borrowed alone; each
+    // length is its slice's.
     unsafe {
         raw::journal_check(
             journal.as_ptr(),
@@ -55,6 +56,8 @@ pub fn check(journal: &[u8], table: &[i32], answer: &mut u64) -> u32 {
 
 /// Writes the record numbers of one transaction (01: slip); answers how many.
 pub fn chain(journal: &[u8], transaction: u16, lsns: &mut [u32], answer: &mut u64) -> u32 {
+    // SAFETY: the journal is borrowed through the call and only read, `lsns` and `answer` are borrowed alone;
+    // each length is its slice's.
     unsafe {
         raw::journal_chain(
             journal.as_ptr(),
@@ -80,6 +83,8 @@ pub fn undo(
     aborted: &mut u32,
     answer: &mut u64,
 ) -> u32 {
+    // SAFETY: journal and list are borrowed through the call and only read, all else is borrowed alone; each
+    // length is its slice's.
     unsafe {
         raw::journal_undo(
             journal.as_ptr(),

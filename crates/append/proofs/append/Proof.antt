@@ -99,7 +99,7 @@ module _ {M : Type 1} (𝓤 : URA M) (H : Heap 𝓤) (A : Atoms 𝓤) (W : Given
   to-with = (((κ′, (κ″, tt)), (q′, (q″, tt)), tt, (h, (x, (y, (kind, (tx, (item, (amount, tt))))))), (mach h ∷ [], (s ∷ [], (s′ ∷ [], (vint w8 kind ∷ [], (vint w16 tx ∷ [], (vint w32 item ∷ [], (vint w32 (ofZ w32 amount) ∷ [], tt)))))))), tt)
 
   abbrev Said : Appended → List ℕ → List ℤ → Type 0
-  Said r zs ws = Appends h (x .now) (y .now) kind tx item amount (r .answer) (r .counts) zs ws
+  Said r zs ws = Appends h (record { journal = x .now; table = y .now }) kind tx item amount (r .answer) (r .counts) zs ws
 
   goes-in : Is T.the-row h (mach h ∷ []) → ent 𝓤 (⋆ 𝓤 H A ((‵ (flft κ′ q′) ⊛ ‵ (flft κ″ q″) ⊛ ‵ ftrue) ∷ ‵ (MutSlice (named 1) κ′ u8 .own x (s ∷ [])) ∷ ‵ (MutSlice (named 2) κ″ i32 .own y (s′ ∷ [])) ∷ [])) (With 𝓤 H A at-mem run .pre to-with)
   goes-in is =

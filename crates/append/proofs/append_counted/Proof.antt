@@ -141,7 +141,7 @@ module _ {M : Type 1} (𝓤 : URA M) (H : Heap 𝓤) (A : Atoms 𝓤) (W : Given
   to-thin ν b γ = (((ν ∷ [], (κ, (κ′, tt))), (fullShare, (q, (q′, tt))), tt, sent b γ, (vptr b 0 ∷ [], (s ∷ [], (s′ ∷ [], (vint w8 kind ∷ [], (vint w16 tx ∷ [], (vint w32 item ∷ [], (vint w32 (ofZ w32 amount) ∷ [], tt)))))))), tt)
 
   abbrev Said : Outcome → Counts → List ℕ → List ℤ → Type 0
-  Said r t zs ws = Appends h (x .now) (y .now) kind tx item amount r t zs ws
+  Said r t zs ws = Appends h (record { journal = x .now; table = y .now }) kind tx item amount r t zs ws
 
   abbrev owned-ref : ℕ → ℕ → GName → Fml
   owned-ref ν b γ = MutRef (named 0) (ν ∷ []) T.the-row .own (lent b γ) (vptr b 0 ∷ [])

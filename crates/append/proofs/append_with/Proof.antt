@@ -1,86 +1,63 @@
 -- `append::append_with` meets its contract: the decision, then the stores.
 -- Assumes nothing.
-use mathlib.Core.Path.{_∙_}
+use mathlib.Core.Path.{_≡_, _∙_}
 use denote.Ref.{now}
+use Rattle.journal.specs.Calls.{newRecord}
 use Rattle.append.proofs.Results.{from-bits, from-table, never, append-refused, append-admitted, append-done}
 use borrow.Author.Needs.{needs}
 use Rattle.append.proofs.append_with.Statement.{statement}
 use Rattle.append.proofs.append_with.Tie as tie
 
-new-record-requires : tie.Need-new-record-requires
-new-record-requires c κs = search needs
+-- the entry of the function, from the new record
+abbrev entry : tie.After-new-record → tie.Start
+entry r = r .before .before .before
+
+-- the new record is the one that document 01 asks for
+made : (r : tie.After-new-record)
+    → r .new-record .result ≡ newRecord (now (entry r .args .table)) (entry r .args .kind) (entry r .args .transaction) (entry r .args .item) (entry r .args .after)
+made r =
+    let a = entry r in
+    from-bits (now (a .args .table)) (a .args .kind) (a .args .transaction) (a .args .item) (a .args .after) _ (a .fits .after) (r .new-record .ensures)
 
 prepare-requires : tie.Need-prepare-requires
 prepare-requires c κs =
-    from-table (now (c .before .before .before .before .before .args .table)) (c .before .before .before .before .before .args .kind) (c .before .before .before .before .before .args .transaction) (c .before .before .before .before .before .args .item) (c .before .before .before .before .before .args .after) (c .before .before .new-record .result) (from-bits (now (c .before .before .before .before .before .args .table)) (c .before .before .before .before .before .args .kind) (c .before .before .before .before .before .args .transaction) (c .before .before .before .before .before .args .item) (c .before .before .before .before .before .args .after) _ (c .before .before .before .before .before .fits .after) (c .before .before .new-record .ensures))
-
-enum-known-planned : tie.Need-enum-known-planned
-enum-known-planned c = search needs
-
-enum-known-planned-2 : tie.Need-enum-known-planned-2
-enum-known-planned-2 c = search needs
-
-enum-known-planned-3 : tie.Need-enum-known-planned-3
-enum-known-planned-3 c = search needs
-
-enum-told : tie.Need-enum-told
-enum-told c = search needs
-
-same-length : tie.Need-same-length
-same-length c = search needs
-
-same-length-2 : tie.Need-same-length-2
-same-length-2 c = search needs
+    let r : tie.After-new-record = search in
+    from-table (now (entry r .args .table)) _ _ _ _ (r .new-record .result) (made r)
 
 returns : tie.Need-returns
 returns c =
     never _ _ (c .enum-told .given .1)
 
-same-length-3 : tie.Need-same-length-3
-same-length-3 c = search needs
-
-same-length-4 : tie.Need-same-length-4
-same-length-4 c = search needs
-
 returns-2 : tie.Need-returns-2
 returns-2 c =
-    append-refused (now (c .before .before .before .before .before .before .before .before .before .before .before .before .args .journal)) (now (c .before .before .before .before .before .before .before .before .before .before .before .before .args .table)) (c .before .before .before .before .before .before .before .before .before .before .before .before .args .kind) (c .before .before .before .before .before .before .before .before .before .before .before .before .args .transaction) (c .before .before .before .before .before .before .before .before .before .before .before .before .args .item) (c .before .before .before .before .before .before .before .before .before .before .before .before .args .after) (c .before .before .before .before .before .before .before .before .before .before .before .before .args .counts) (c .before .before .before .before .before .before .before .before .before .new-record .result) (from-bits (now (c .before .before .before .before .before .before .before .before .before .before .before .before .args .table)) (c .before .before .before .before .before .before .before .before .before .before .before .before .args .kind) (c .before .before .before .before .before .before .before .before .before .before .before .before .args .transaction) (c .before .before .before .before .before .before .before .before .before .before .before .before .args .item) (c .before .before .before .before .before .before .before .before .before .before .before .before .args .after) _ (c .before .before .before .before .before .before .before .before .before .before .before .before .fits .after) (c .before .before .before .before .before .before .before .before .before .new-record .ensures)) (c .before .before .before .before .before .before .prepare .result) (c .before .before .before .before .before .before .prepare .ensures) _ (c .before .before .before .before .planned2 .given .1 ∙ c .before .planned3 .given .1)
-
-cast-enter : tie.Need-cast-enter
-cast-enter c = search needs
+    let w : tie.After-planned3 = search in
+    let v : tie.After-planned2 = search in
+    let p : tie.After-prepare = search in
+    let r : tie.After-new-record = search in
+    append-refused _ _ _ _ _ _ _ (r .new-record .result) (made r) (p .prepare .result) (p .prepare .ensures) _ (v .planned2 .given .1 ∙ w .planned3 .given .1)
 
 enter-requires : tie.Need-enter-requires
 enter-requires c κs =
-    append-admitted (now (c .before .before .before .before .before .before .before .before .before .before .before .args .journal)) (now (c .before .before .before .before .before .before .before .before .before .before .before .args .table)) (c .before .before .before .before .before .before .before .before .before .before .before .args .kind) (c .before .before .before .before .before .before .before .before .before .before .before .args .transaction) (c .before .before .before .before .before .before .before .before .before .before .before .args .item) (c .before .before .before .before .before .before .before .before .before .before .before .args .after) (c .before .before .before .before .before .before .before .before .before .before .before .args .counts) (c .before .before .before .before .before .before .before .before .new-record .result) (from-bits (now (c .before .before .before .before .before .before .before .before .before .before .before .args .table)) (c .before .before .before .before .before .before .before .before .before .before .before .args .kind) (c .before .before .before .before .before .before .before .before .before .before .before .args .transaction) (c .before .before .before .before .before .before .before .before .before .before .before .args .item) (c .before .before .before .before .before .before .before .before .before .before .before .args .after) _ (c .before .before .before .before .before .before .before .before .before .before .before .fits .after) (c .before .before .before .before .before .before .before .before .new-record .ensures)) (c .before .before .before .before .before .prepare .result) (c .before .before .before .before .before .prepare .ensures) _ (c .before .before .before .planned .given .1)
-
-same-length-5 : tie.Need-same-length-5
-same-length-5 c = search needs
-
-same-length-6 : tie.Need-same-length-6
-same-length-6 c = search needs
+    let v : tie.After-planned = search in
+    let p : tie.After-prepare = search in
+    let r : tie.After-new-record = search in
+    append-admitted _ _ _ _ _ _ _ (r .new-record .result) (made r) (p .prepare .result) (p .prepare .ensures) _ (v .planned .given .1)
 
 returns-3 : tie.Need-returns-3
 returns-3 c =
-    append-done (now (c .before .before .before .before .before .before .before .before .before .before .before .before .before .before .before .args .journal)) (now (c .before .before .before .before .before .before .before .before .before .before .before .before .before .before .before .args .table)) (c .before .before .before .before .before .before .before .before .before .before .before .before .before .before .before .args .kind) (c .before .before .before .before .before .before .before .before .before .before .before .before .before .before .before .args .transaction) (c .before .before .before .before .before .before .before .before .before .before .before .before .before .before .before .args .item) (c .before .before .before .before .before .before .before .before .before .before .before .before .before .before .before .args .after) (c .before .before .before .before .before .before .before .before .before .before .before .before .before .before .before .args .counts) (c .before .before .before .before .before .before .before .before .before .before .before .before .new-record .result) (from-bits (now (c .before .before .before .before .before .before .before .before .before .before .before .before .before .before .before .args .table)) (c .before .before .before .before .before .before .before .before .before .before .before .before .before .before .before .args .kind) (c .before .before .before .before .before .before .before .before .before .before .before .before .before .before .before .args .transaction) (c .before .before .before .before .before .before .before .before .before .before .before .before .before .before .before .args .item) (c .before .before .before .before .before .before .before .before .before .before .before .before .before .before .before .args .after) _ (c .before .before .before .before .before .before .before .before .before .before .before .before .before .before .before .fits .after) (c .before .before .before .before .before .before .before .before .before .before .before .before .new-record .ensures)) (c .before .before .before .before .before .before .before .before .before .prepare .result) (c .before .before .before .before .before .before .before .before .before .prepare .ensures) _ (c .before .before .before .before .before .before .before .planned .given .1) _ _ _ (c .before .before .before .enter .ensures .0) (c .before .before .before .enter .ensures .1) (c .before .before .before .enter .ensures .2)
+    let e : tie.After-enter = search in
+    let v : tie.After-planned = search in
+    let p : tie.After-prepare = search in
+    let r : tie.After-new-record = search in
+    let q = e .enter .ensures in
+    append-done _ _ _ _ _ _ _ (r .new-record .result) (made r) (p .prepare .result) (p .prepare .ensures) _ (v .planned .given .1) _ _ _ (q .0) (q .1) (q .2)
 
 pub append-with-spec : {M : Type 1} → statement M
 append-with-spec =
     tie.close
     (tie.spec
-    new-record-requires
-    prepare-requires
-    enum-known-planned
-    enum-known-planned-2
-    enum-known-planned-3
-    enum-told
-    same-length
-    same-length-2
-    returns
-    same-length-3
-    same-length-4
-    returns-2
-    cast-enter
-    enter-requires
-    same-length-5
-    same-length-6
-    returns-3)
+    (λ c κs. search needs) prepare-requires
+    (λ c. search needs) (λ c. search needs) (λ c. search needs) (λ c. search needs) (λ c. search needs) (λ c. search needs) returns
+    (λ c. search needs) (λ c. search needs) returns-2
+    (λ c. search needs) enter-requires
+    (λ c. search needs) (λ c. search needs) returns-3)

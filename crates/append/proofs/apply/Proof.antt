@@ -5,25 +5,13 @@ use borrow.Author.Needs.{needs}
 use Rattle.append.proofs.apply.Statement.{statement}
 use Rattle.append.proofs.apply.Tie as tie
 
-cast-put-amount : tie.Need-cast-put-amount
-cast-put-amount c = search needs
-
 put-amount-requires : tie.Need-put-amount-requires
 put-amount-requires c κs =
     search write-in
 
-restore-requires : tie.Need-restore-requires
-restore-requires c κs = search needs
-
-same-length : tie.Need-same-length
-same-length c = search needs
-
 returns : tie.Need-returns
 returns c =
     search (after-write, needs)
-
-same-length-2 : tie.Need-same-length-2
-same-length-2 c = search needs
 
 returns-2 : tie.Need-returns-2
 returns-2 c =
@@ -37,11 +25,6 @@ pub apply-spec : {M : Type 1} → statement M
 apply-spec =
     tie.close
     (tie.spec
-    cast-put-amount
-    put-amount-requires
-    restore-requires
-    same-length
-    returns
-    same-length-2
-    returns-2
-    returns-3)
+    (λ c. search needs) put-amount-requires
+    (λ c κs. search needs) (λ c. search needs) returns
+    (λ c. search needs) returns-2 returns-3)

@@ -5,12 +5,6 @@ use borrow.Author.Needs.{needs}
 use Rattle.append.proofs.before_image.Statement.{statement}
 use Rattle.append.proofs.before_image.Tie as tie
 
-mul-result : tie.Need-mul-result
-mul-result c = search needs
-
-shared-slice-copy-out-result : tie.Need-shared-slice-copy-out-result
-shared-slice-copy-out-result c = search needs
-
 returns : tie.Need-returns
 returns c =
     search (image-in, needs)
@@ -25,4 +19,4 @@ returns-3 c =
 
 pub before-image-spec : {M : Type 1} → statement M
 before-image-spec =
-    tie.close (tie.spec mul-result shared-slice-copy-out-result returns returns-2 returns-3)
+    tie.close (tie.spec (λ c. search needs) (λ c. search needs) returns returns-2 returns-3)

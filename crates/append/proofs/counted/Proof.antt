@@ -23,10 +23,6 @@ loop-holds : tie.Need-loop-holds Inv-loop μ-loop
 loop-holds c =
     (search needs, search counting-start)
 
-add-i : tie.Need-add-i Inv-loop μ-loop
-add-i c =
-    search needs
-
 kind-at-requires : tie.Need-kind-at-requires Inv-loop μ-loop
 kind-at-requires c κs =
     search counting-long
@@ -34,10 +30,6 @@ kind-at-requires c κs =
 raise-requires : tie.Need-raise-requires Inv-loop μ-loop
 raise-requires c κs =
     search counting-few
-
-loop-less : tie.Need-loop-less Inv-loop μ-loop
-loop-less c =
-    omega arith
 
 loop-again : tie.Need-loop-again Inv-loop μ-loop
 loop-again c =
@@ -51,12 +43,6 @@ pub counted-spec : {M : Type 1} → statement M
 counted-spec =
     tie.close
     (tie.spec
-    Inv-loop
-    μ-loop
-    loop-holds
-    add-i
-    kind-at-requires
-    raise-requires
-    loop-less
-    loop-again
-    returns)
+    Inv-loop μ-loop loop-holds
+    (λ c. search needs) kind-at-requires raise-requires
+    (λ c. omega arith) loop-again returns)

@@ -23,18 +23,6 @@ loop-holds : tie.Need-loop-holds Inv-loop μ-loop
 loop-holds c =
     (search needs, search last-start)
 
-add-i : tie.Need-add-i Inv-loop μ-loop
-add-i c =
-    search needs
-
-later-requires : tie.Need-later-requires Inv-loop μ-loop
-later-requires c κs =
-    omega arith
-
-loop-less : tie.Need-loop-less Inv-loop μ-loop
-loop-less c =
-    omega arith
-
 loop-again : tie.Need-loop-again Inv-loop μ-loop
 loop-again c =
     (omega arith, search last-step)
@@ -45,5 +33,4 @@ returns c =
 
 pub last-of-spec : {M : Type 1} → statement M
 last-of-spec =
-    tie.close
-    (tie.spec Inv-loop μ-loop loop-holds add-i later-requires loop-less loop-again returns)
+    tie.close (tie.spec Inv-loop μ-loop loop-holds (λ c. search needs) (λ c κs. omega arith) (λ c. omega arith) loop-again returns)

@@ -5,9 +5,6 @@ use borrow.Author.Needs.{needs}
 use Rattle.append.proofs.later.Statement.{statement}
 use Rattle.append.proofs.later.Tie as tie
 
-transaction-at-requires : tie.Need-transaction-at-requires
-transaction-at-requires c κs = search needs
-
 returns : tie.Need-returns
 returns c =
     search later-own
@@ -17,4 +14,4 @@ returns-2 c =
     search later-other
 
 pub later-spec : {M : Type 1} → statement M
-later-spec = tie.close (tie.spec transaction-at-requires returns returns-2)
+later-spec = tie.close (tie.spec (λ c κs. search needs) returns returns-2)

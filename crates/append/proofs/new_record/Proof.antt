@@ -5,12 +5,9 @@ use borrow.Author.Needs.{needs}
 use Rattle.append.proofs.new_record.Statement.{statement}
 use Rattle.append.proofs.new_record.Tie as tie
 
-before-image-requires : tie.Need-before-image-requires
-before-image-requires c κs = search needs
-
 returns : tie.Need-returns
 returns c =
     search (new-is, needs)
 
 pub new-record-spec : {M : Type 1} → statement M
-new-record-spec = tie.close (tie.spec before-image-requires returns)
+new-record-spec = tie.close (tie.spec (λ c κs. search needs) returns)

@@ -21,14 +21,6 @@ undo-write-requires : tie.Need-undo-write-requires Inv-loop μ-loop
 undo-write-requires c κs =
     (search undoing-long, search undoing-formed)
 
-sub-i : tie.Need-sub-i Inv-loop μ-loop
-sub-i c =
-    omega arith
-
-loop-less : tie.Need-loop-less Inv-loop μ-loop
-loop-less c =
-    omega arith
-
 loop-again : tie.Need-loop-again Inv-loop μ-loop
 loop-again c =
     search undoing-step
@@ -43,14 +35,4 @@ returns c =
 
 pub restore-spec : {M : Type 1} → statement M
 restore-spec =
-    tie.close
-    (tie.spec
-    Inv-loop
-    μ-loop
-    loop-holds
-    undo-write-requires
-    sub-i
-    loop-less
-    loop-again
-    same-length
-    returns)
+    tie.close (tie.spec Inv-loop μ-loop loop-holds undo-write-requires (λ c. omega arith) (λ c. omega arith) loop-again same-length returns)

@@ -5,18 +5,9 @@ use borrow.Author.Needs.{needs}
 use Rattle.append.proofs.undo_write.Statement.{statement}
 use Rattle.append.proofs.undo_write.Tie as tie
 
-record-at-requires : tie.Need-record-at-requires
-record-at-requires c κs = search needs
-
-cast-put-amount : tie.Need-cast-put-amount
-cast-put-amount c = search needs
-
 put-amount-requires : tie.Need-put-amount-requires
 put-amount-requires c κs =
     search undone-in
-
-same-length : tie.Need-same-length
-same-length c = search needs
 
 returns : tie.Need-returns
 returns c =
@@ -32,12 +23,4 @@ returns-3 c =
 
 pub undo-write-spec : {M : Type 1} → statement M
 undo-write-spec =
-    tie.close
-    (tie.spec
-    record-at-requires
-    cast-put-amount
-    put-amount-requires
-    same-length
-    returns
-    returns-2
-    returns-3)
+    tie.close (tie.spec (λ c κs. search needs) (λ c. search needs) put-amount-requires (λ c. search needs) returns returns-2 returns-3)

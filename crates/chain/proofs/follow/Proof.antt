@@ -31,12 +31,6 @@ slice-write-lsns c = search walking-in
 next-at-requires : tie.Need-next-at-requires Inv-loop μ-loop
 next-at-requires c κs = search walking-long
 
-cast-i : tie.Need-cast-i Inv-loop μ-loop
-cast-i c = search needs
-
-add-k : tie.Need-add-k Inv-loop μ-loop
-add-k c = search needs
-
 loop-less : tie.Need-loop-less Inv-loop μ-loop
 loop-less c = search walking-less
 
@@ -53,16 +47,5 @@ pub follow-spec : {M : Type 1} → statement M
 follow-spec =
     tie.close
     (tie.spec
-    Inv-loop
-    μ-loop
-    loop-holds
-    cast-lsns
-    mul-lsns
-    slice-write-lsns
-    next-at-requires
-    cast-i
-    add-k
-    loop-less
-    loop-again
-    same-length
-    returns)
+    Inv-loop μ-loop loop-holds cast-lsns mul-lsns slice-write-lsns next-at-requires
+    (λ c. search needs) (λ c. search needs) loop-less loop-again same-length returns)

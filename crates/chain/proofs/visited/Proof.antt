@@ -19,12 +19,6 @@ loop-holds c = search walking-start
 next-at-requires : tie.Need-next-at-requires Inv-loop μ-loop
 next-at-requires c κs = search walking-long
 
-cast-i : tie.Need-cast-i Inv-loop μ-loop
-cast-i c = search needs
-
-add-steps : tie.Need-add-steps Inv-loop μ-loop
-add-steps c = search needs
-
 loop-less : tie.Need-loop-less Inv-loop μ-loop
 loop-less c = search walking-less
 
@@ -36,14 +30,4 @@ returns c = (search walking-counts, search walking-few)
 
 pub visited-spec : {M : Type 1} → statement M
 visited-spec =
-    tie.close
-    (tie.spec
-    Inv-loop
-    μ-loop
-    loop-holds
-    next-at-requires
-    cast-i
-    add-steps
-    loop-less
-    loop-again
-    returns)
+    tie.close (tie.spec Inv-loop μ-loop loop-holds next-at-requires (λ c. search needs) (λ c. search needs) loop-less loop-again returns)

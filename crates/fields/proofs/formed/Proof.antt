@@ -1,6 +1,6 @@
 -- `fields::formed` meets its contract.
 -- Assumes nothing.
-use Rattle.fields.proofs.Fields.{formed-reserved, formed-low, formed-high, formed-read, formed-read-item, formed-write, formed-commit, formed-commit-item, formed-abort, formed-abort-item, formed-kind}
+use Rattle.fields.proofs.Fields.{formed-reserved, formed-low, formed-high, formed-read, formed-write, formed-commit, formed-abort, formed-kind}
 use borrow.Author.Needs.{needs}
 use Rattle.fields.proofs.formed.Statement.{statement}
 use Rattle.fields.proofs.formed.Tie as tie
@@ -20,11 +20,14 @@ returns-3 c =
 no-amounts-requires : tie.Need-no-amounts-requires
 no-amounts-requires c κs = search needs
 
-no-amounts-requires-2 : tie.Need-no-amounts-requires-2
-no-amounts-requires-2 c κs = search needs
+both-requires : tie.Need-both-requires
+both-requires c κs = search needs
 
-no-amounts-requires-3 : tie.Need-no-amounts-requires-3
-no-amounts-requires-3 c κs = search needs
+both-requires-2 : tie.Need-both-requires-2
+both-requires-2 c κs = search needs
+
+both-requires-3 : tie.Need-both-requires-3
+both-requires-3 c κs = search needs
 
 returns-4 : tie.Need-returns-4
 returns-4 c =
@@ -32,30 +35,18 @@ returns-4 c =
 
 returns-5 : tie.Need-returns-5
 returns-5 c =
-    search formed-read-item
+    search formed-write
 
 returns-6 : tie.Need-returns-6
 returns-6 c =
-    search formed-write
+    search formed-commit
 
 returns-7 : tie.Need-returns-7
 returns-7 c =
-    search formed-commit
+    search formed-abort
 
 returns-8 : tie.Need-returns-8
 returns-8 c =
-    search formed-commit-item
-
-returns-9 : tie.Need-returns-9
-returns-9 c =
-    search formed-abort
-
-returns-10 : tie.Need-returns-10
-returns-10 c =
-    search formed-abort-item
-
-returns-11 : tie.Need-returns-11
-returns-11 c =
     search formed-kind
 
 pub formed-spec : {M : Type 1} → statement M
@@ -66,13 +57,11 @@ formed-spec =
     returns-2
     returns-3
     no-amounts-requires
-    no-amounts-requires-2
-    no-amounts-requires-3
+    both-requires
+    both-requires-2
+    both-requires-3
     returns-4
     returns-5
     returns-6
     returns-7
-    returns-8
-    returns-9
-    returns-10
-    returns-11)
+    returns-8)

@@ -14,11 +14,6 @@ use Rattle.files.proofs.print.Tie as tie
 fits : (out : List ℕ) {r : Printed} {n : ℕ} → r ≡ Bytes n → Within out r → n ≤ length out
 fits out e w = rw e at w
 
-part-write-all-end : tie.Need-part-write-all-end
-part-write-all-end c =
-    let r : tie.After-report-files = c .before .before .before .before .before in
-    fits (r .report-files .last .1 .1 .1 .0) (c .before .before .printed .given .1) (r .report-files .ensures .0)
-
 pub print-spec : {M : Type 1} → statement M
 print-spec =
     tie.close
@@ -30,7 +25,7 @@ print-spec =
     (search needs)
     (search needs)
     (search needs)
-    part-write-all-end
+    (λ c. search fits)
     (λ c κs. search needs)
     (search needs)
     (search needs)

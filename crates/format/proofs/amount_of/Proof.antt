@@ -17,5 +17,4 @@ returns-2 : tie.Need-returns-2
 returns-2 c = rw (upper (c .before .args .x) (omega arith) (omega arith)) (ap (toZ w32) (ofZ-toZ w32 (c .before .args .x) (search needs)))
 
 pub amount-of-spec : {M : Type 1} → statement M
-amount-of-spec =
-    tie.close (tie.spec (search needs) (search needs) (search needs) sub-result-2 (search needs) returns-2)
+amount-of-spec = tie.close (tie.spec (search needs) (search needs) (search needs) sub-result-2 (search needs) returns-2)

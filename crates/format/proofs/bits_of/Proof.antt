@@ -40,5 +40,4 @@ returns-2 c =
     rw (same (c .before), below c .1, toZ-ofZ w32 (pos (below c .0)) (record { sfits = below c .2 })) (below c .3)
 
 pub bits-of-spec : {M : Type 1} → statement M
-bits-of-spec =
-    tie.close (tie.spec cast-result sub-result cast-result-2 sub-result-2 returns returns-2)
+bits-of-spec = tie.close (tie.spec cast-result sub-result cast-result-2 sub-result-2 returns returns-2)

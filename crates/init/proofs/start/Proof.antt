@@ -21,15 +21,4 @@ returns-4 c =
     started (now (c .before .before .before .before .before .before .before .before .args .journal)) (c .before .before .before .before .before .before .before .before .args .items) (omega arith) (omega arith) (omega arith) (c .before .before .put-record .ensures)
 
 pub start-spec : {M : Type 1} → statement M
-start-spec =
-    tie.close
-    (tie.spec
-    returns
-    returns-2
-    returns-3
-    (search needs)
-    (search needs)
-    (search needs)
-    (search needs)
-    (search needs)
-    returns-4)
+start-spec = tie.close (tie.spec returns returns-2 returns-3 (search needs) (search needs) (search needs) (search needs) (search needs) returns-4)

@@ -4,9 +4,8 @@ use Prim.Native.Nat.{_≤_, _-_}
 use mathlib.Core.Path.{_≡_}
 use native.Mathlib.Omega.{arith}
 use borrow.Author.Needs.{needs}
-use Rattle.lists.specs.Tables.{number}
+use Rattle.lists.specs.Tables.{number, coded}
 use Rattle.trace.proofs.CodesLaws.{number-start, number-step, number-few, number-done}
-use Rattle.trace.specs.Codes.{coded}
 use Rattle.repair.proofs.number_of.Statement.{statement}
 use Rattle.repair.proofs.number_of.Tie as tie
 

@@ -5,9 +5,10 @@ use lib.ListN.{replicate}
 use mathlib.Core.Path.{_≡_, refl}
 use native.Mathlib.Omega.{arith}
 use borrow.Author.Needs.{needs}
+use Rattle.lists.specs.Tables.{coded}
 use Rattle.repair.proofs.RankLaws.{kept-start, ranks-start, kept-few, kept-step, ranks-step, ranks-done}
 use Rattle.repair.specs.Copying.{rank}
-use Rattle.trace.specs.Codes.{coded, partly}
+use Rattle.trace.specs.Codes.{partly}
 use Rattle.repair.proofs.ranks.Statement.{statement}
 use Rattle.repair.proofs.ranks.Tie as tie
 

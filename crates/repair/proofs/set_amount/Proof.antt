@@ -1,7 +1,7 @@
 -- `repair::set_amount` meets its contract: a store behind the end changes nothing.
 -- Assumes nothing.
 use borrow.Author.Needs.{needs}
-use Rattle.trace.proofs.CodesLaws.{set-behind}
+use Rattle.lists.proofs.TablesLaws.{set-behind}
 use Rattle.repair.proofs.set_amount.Statement.{statement}
 use Rattle.repair.proofs.set_amount.Tie as tie
 

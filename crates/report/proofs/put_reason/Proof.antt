@@ -5,12 +5,12 @@ use Rattle.report.proofs.put_reason.Statement.{statement}
 use Rattle.report.proofs.put_reason.Tie as tie
 
 put-refused-requires : tie.Need-put-refused-requires
-put-refused-requires c κs = rw (c .before .before .number-of .ensures, c .before .place-of .ensures) (c .before .before .before .before .pre)
+put-refused-requires c κs = rw (c .before .before .number .ensures, c .before .place .ensures) (c .before .before .before .before .pre)
 
 returns : tie.Need-returns
 returns c =
-    let p : tie.After-place-of = c .before .before .before .before in
-    rw (p .before .number-of .ensures, p .place-of .ensures) at (c .before .before .put-refused .ensures)
+    let p : tie.After-place = c .before .before .before .before in
+    rw (p .before .number .ensures, p .place .ensures) at (c .before .before .put-refused .ensures)
 
 pub put-reason-spec : {M : Type 1} → statement M
-put-reason-spec = tie.close (tie.spec (search needs) (search needs) put-refused-requires (search needs) returns)
+put-reason-spec = tie.close (tie.spec (search needs) (search needs) (search needs) put-refused-requires (search needs) returns)

@@ -1,17 +1,14 @@
 -- `report::read_amounts` meets its contract: the first i amounts stand in the table.
 -- Assumes nothing.
-use mathlib.Core.Path.{_≡_, refl, sym, ap, _∙_}
+use mathlib.Core.Path.{refl, ap, _∙_}
 use mathlib.Core.List.{List}
-use Prim.Native.Nat.{ℕ, _-_, _/_, _≤_}
-use native.Mathlib.Numerals.{add-one}
+use Prim.Native.Nat.{ℕ, _-_}
 use native.Mathlib.Omega.{arith}
 use denote.Ref.{now}
-use lib.ListN.{length, length-set}
-use Rattle.lists.specs.Tables.{tabulate, store}
 use Rattle.format.specs.Bytes.{entry, amount}
 use Rattle.format.proofs.BytesLaws.{amount-bits}
 use Rattle.model.specs.History.{Amount}
-use Rattle.report.proofs.OutputLaws.{filled-none, filled-more, entry-is, amounts-each}
+use Rattle.report.proofs.OutputLaws.{Filling, filling-start, filling-step, filling-end, entry-is, amounts-each}
 use Rattle.report.proofs.read_amounts.Statement.{statement}
 use Rattle.report.proofs.read_amounts.Tie as tie
 
@@ -20,34 +17,20 @@ abbrev amountIn : List ℕ → ℕ → Amount
 amountIn file k = amount (entry 4 file k)
 
 abbrev Inv-loop : tie.InvT-loop
-Inv-loop file table₀ n i₀ table i = (i ≤ n) × (table ≡ store 0 (tabulate (amountIn file) 0 i) table₀) × (length table ≡ length table₀)
+Inv-loop file table₀ n i₀ table i = Filling (amountIn file) table₀ n table i
 
 abbrev μ-loop : tie.MeasureT-loop
 μ-loop file table₀ n i₀ table i = n - i
 
-loop-holds : tie.Need-loop-holds Inv-loop μ-loop
-loop-holds c = let a = c .before .args in (omega arith, sym (filled-none (amountIn (now (a .file))) (now (a .table))), refl)
-
 loop-again : tie.Need-loop-again Inv-loop μ-loop
 loop-again c =
     let l = c .before .before .before .loop in
-    let a = c .before .before .before .before .before .args in
-    let v : c .amount-of .result ≡ amountIn (now (a .file)) (l .i) =
-    c .amount-of .ensures ∙ ap amount (c .before .value4 .ensures ∙ entry-is 4 (now (a .file)) (l .i)) in (
-      omega arith,
-      rw (amount-bits {z = c .amount-of .result} (record { sfits = c .amount-of .ok }), v, l .inv .1, add-one) (filled-more (amountIn (now (a .file))) (now (a .table)) (l .i) (omega arith)),
-      simp length-set (l .inv .2),
-    )
-
-same-length : tie.Need-same-length Inv-loop μ-loop
-same-length c = c .before .loop .inv .2
+    filling-step _ _ _ (l .inv) (omega arith) (omega arith)
+    (amount-bits {z = c .amount-of .result} (record { sfits = c .amount-of .ok })
+    ∙ c .amount-of .ensures ∙ ap amount (c .before .value4 .ensures ∙ entry-is 4 (now (c .before .before .before .before .before .args .file)) (l .i)))
 
 returns : tie.Need-returns Inv-loop μ-loop
-returns c =
-    let l = c .before .loop in
-    let a = c .before .before .before .args in
-    let e : l .i ≡ length (now (a .file)) / 4 = omega arith in
-    (refl, l .inv .1 ∙ rw (e, amounts-each))
+returns c = (refl, rw amounts-each (filling-end _ _ _ (c .before .loop .inv) (omega arith)))
 
 pub read-amounts-spec : {M : Type 1} → statement M
 read-amounts-spec =
@@ -55,7 +38,7 @@ read-amounts-spec =
     (tie.spec
     Inv-loop
     μ-loop
-    loop-holds
+    (λ c. filling-start _ _ _)
     (λ c. omega arith)
     (λ c κs. omega arith)
     (λ c κs. tt)
@@ -64,5 +47,5 @@ read-amounts-spec =
     (λ c. omega arith)
     (λ c. omega arith)
     loop-again
-    same-length
+    (λ c. c .before .loop .inv .size)
     returns)

@@ -5,8 +5,9 @@ use native.Mathlib.Omega.{arith}
 use denote.Ref.{now}
 use lib.ListN.{length}
 use borrow.Author.Needs.{needs}
+use Rattle.journal.specs.Inputs.{lent}
 use Rattle.journal.specs.Calls as calls
-use Rattle.undo.specs.Answers.{answerOf}
+use Rattle.deliver.specs.Answers.{answerOf}
 use Rattle.report.specs.Output.{lines, linesOf}
 use Rattle.report.proofs.TakenLaws.{length-report, reported}
 use Rattle.report.proofs.report_on.Statement.{statement}
@@ -17,7 +18,7 @@ start c = c .before .before .before .before .before .before .before .before .bef
 
 -- the lines that are printed are those of the report
 same : (c : tie.After-count-in) → lines (c .count-in .result) (now (start c .args .old)) (c .before .before .before .before .before .before .undo .last .1 .0) (c .before .before .before .before .before .before .undo .last .1 .1 .1 .0) (answerOf (c .before .before .before .before .before .before .undo .result))
-    ≡ linesOf (now (start c .args .journal)) (now (start c .args .old)) (calls.undo (now (start c .args .journal)) (now (start c .args .old)) (now (start c .args .bad)) (now (start c .args .status)) (now (start c .args .copy)))
+    ≡ linesOf (lent (now (start c .args .journal)) (now (start c .args .old))) (calls.undo (lent (now (start c .args .journal)) (now (start c .args .old))) (now (start c .args .bad)) (now (start c .args .status)) (now (start c .args .copy)))
 same c =
     let s = start c in
     let u = c .before .before .before .before .before .before .undo in
@@ -30,7 +31,7 @@ put-answer-requires c κs =
     let u = d .before .before .before .before .before .before .undo in (
       u .kept .1 .1 .1 .0 ∙ s .pre .1,
       ap length (sym (s .pre .0)) ∙ sym (u .kept .1 .0),
-      rw (same d) (omega (arith, s .pre .2, length-report (now (s .args .journal)) (now (s .args .old)) (now (s .args .bad)) (now (s .args .status)) (now (s .args .copy)))),
+      rw (same d) (record { room = omega (arith, s .pre .2, length-report (now (s .args .journal)) (now (s .args .old)) (now (s .args .bad)) (now (s .args .status)) (now (s .args .copy))) }),
     )
 
 returns : tie.Need-returns

@@ -5,18 +5,6 @@ use borrow.Author.Needs.{needs}
 use Rattle.rules.proofs.judge_added_write.Statement.{statement}
 use Rattle.rules.proofs.judge_added_write.Tie as tie
 
-add-lsn : tie.Need-add-lsn
-add-lsn c = search needs
-
-cast-lsn : tie.Need-cast-lsn
-cast-lsn c = search needs
-
-cast-x : tie.Need-cast-x
-cast-x c = search needs
-
-cast-s : tie.Need-cast-s
-cast-s c = search needs
-
 last-writer-requires : tie.Need-last-writer-requires
 last-writer-requires c κs =
     search item-write
@@ -41,12 +29,4 @@ pub judge-added-write-spec : {M : Type 1} → statement M
 judge-added-write-spec =
     tie.close
     (tie.spec
-    add-lsn
-    cast-lsn
-    cast-x
-    cast-s
-    last-writer-requires
-    readers-requires
-    returns
-    returns-2
-    returns-3)
+    (λ c. search needs) (λ c. search needs) (λ c. search needs) (λ c. search needs) last-writer-requires readers-requires returns returns-2 returns-3)

@@ -5,18 +5,6 @@ use borrow.Author.Needs.{needs}
 use Rattle.rules.proofs.judge_read.Statement.{statement}
 use Rattle.rules.proofs.judge_read.Tie as tie
 
-add-i : tie.Need-add-i
-add-i c = search needs
-
-cast-i : tie.Need-cast-i
-cast-i c = search needs
-
-cast-x : tie.Need-cast-x
-cast-x c = search needs
-
-cast-s : tie.Need-cast-s
-cast-s c = search needs
-
 last-writer-requires : tie.Need-last-writer-requires
 last-writer-requires c κs =
     search item-read
@@ -31,4 +19,6 @@ returns-2 c =
 
 pub judge-read-spec : {M : Type 1} → statement M
 judge-read-spec =
-    tie.close (tie.spec add-i cast-i cast-x cast-s last-writer-requires returns returns-2)
+    tie.close
+    (tie.spec
+    (λ c. search needs) (λ c. search needs) (λ c. search needs) (λ c. search needs) last-writer-requires returns returns-2)

@@ -5,17 +5,9 @@ use borrow.Author.Needs.{needs}
 use Rattle.rules.proofs.judge_write.Statement.{statement}
 use Rattle.rules.proofs.judge_write.Tie as tie
 
-add-i : tie.Need-add-i
-add-i c = search needs
-
-cast-i : tie.Need-cast-i
-cast-i c = search needs
-
-cast-x : tie.Need-cast-x
-cast-x c = search needs
-
-cast-s : tie.Need-cast-s
-cast-s c = search needs
+-- the entry of the function, from rule 9
+abbrev entry : tie.After-matches-standing → tie.Start
+entry m = m .before .before .before .before .before .before .before .before .before .before .before .before .before
 
 last-writer-requires : tie.Need-last-writer-requires
 last-writer-requires c κs =
@@ -35,11 +27,13 @@ matches-standing-requires c κs =
 
 returns-2 : tie.Need-returns-2
 returns-2 c =
-    search write-right
+    let p = entry (c .before) .pre in
+    search (write-right, p)
 
 returns-3 : tie.Need-returns-3
 returns-3 c =
-    search write-wrong
+    let p = entry (c .before) .pre in
+    search (write-wrong, p)
 
 returns-4 : tie.Need-returns-4
 returns-4 c =
@@ -49,14 +43,5 @@ pub judge-write-spec : {M : Type 1} → statement M
 judge-write-spec =
     tie.close
     (tie.spec
-    add-i
-    cast-i
-    cast-x
-    cast-s
-    last-writer-requires
-    readers-requires
-    returns
-    matches-standing-requires
-    returns-2
-    returns-3
-    returns-4)
+    (λ c. search needs) (λ c. search needs) (λ c. search needs) (λ c. search needs) last-writer-requires readers-requires returns
+    matches-standing-requires returns-2 returns-3 returns-4)

@@ -17,9 +17,6 @@ transaction-at-requires : tie.Need-transaction-at-requires
 transaction-at-requires c κs =
     search last-long
 
-cast-v : tie.Need-cast-v
-cast-v c = search needs
-
 look-requires : tie.Need-look-requires
 look-requires c κs =
     search last-range
@@ -30,4 +27,4 @@ returns-2 c =
 
 pub last-writer-spec : {M : Type 1} → statement M
 last-writer-spec =
-    tie.close (tie.spec at-requires returns transaction-at-requires cast-v look-requires returns-2)
+    tie.close (tie.spec at-requires returns transaction-at-requires (λ c. search needs) look-requires returns-2)

@@ -9,9 +9,6 @@ returns : tie.Need-returns
 returns c =
     search looked-own
 
-shared-slice-read-if2 : tie.Need-shared-slice-read-if2
-shared-slice-read-if2 c = search needs
-
 returns-2 : tie.Need-returns-2
 returns-2 c =
     search looked-other
@@ -21,4 +18,4 @@ returns-3 c =
     search looked-ended
 
 pub look-spec : {M : Type 1} → statement M
-look-spec = tie.close (tie.spec returns shared-slice-read-if2 returns-2 returns-3)
+look-spec = tie.close (tie.spec returns (λ c. search needs) returns-2 returns-3)

@@ -2,7 +2,7 @@
 -- Assumes nothing.
 use native.Mathlib.Omega.{arith}
 use Rattle.rules.proofs.RuleLaws.{item-write}
-use Rattle.rules.proofs.NoteLaws.{tx-firsts, tx-ends, read-reads, read-links, write-writes, write-bases, write-reads, state-read, state-write, state-commit, state-abort, state-no-kind}
+use Rattle.rules.proofs.NoteLaws.{tx-firsts, tx-ends, read-reads, read-links, write-writes, write-bases, write-reads, state-read, state-write, state-end}
 use borrow.Author.Needs.{needs}
 use Rattle.rules.proofs.note.Statement.{statement}
 use Rattle.rules.proofs.note.Tie as tie
@@ -32,12 +32,11 @@ note-write-requires : tie.Need-note-write-requires
 note-write-requires c κs =
     (search write-writes, search write-bases, search write-reads, omega arith)
 
+end-code-requires : tie.Need-end-code-requires
+end-code-requires c κs = search needs
+
 slice-write-ends : tie.Need-slice-write-ends
 slice-write-ends c =
-    search tx-ends
-
-slice-write-ends-2 : tie.Need-slice-write-ends-2
-slice-write-ends-2 c =
     search tx-ends
 
 same-length : tie.Need-same-length
@@ -70,8 +69,14 @@ same-length-8 c = search needs
 
 returns-2 : tie.Need-returns-2
 returns-2 c =
-    let p = c .before .before .before .before .before .before .before .before .before .before .before .before .before .before .before .before .before .before .before .before .before .before .before .before .before .before .before .pre in
-    search (state-write, p .0, p .1, p .2, p .3, p .4)
+    let a : tie.Start = search in
+    let w : tie.After-note-write = search in
+    let l : tie.After-last-writer = search in
+    let k : tie.At-match-keys2 = search in
+    let f : tie.After-note-first = search in
+    let p = a .pre in
+    let q = w .note-write .ensures in
+    state-write _ (a .args .n) (a .args .r) _ _ _ _ _ _ _ (p .0) (p .1) (p .2) (p .3) (p .4) (f .note-first .ensures) _ _ _ (l .last-writer .result) (k .match .keys2) (l .last-writer .ensures) (q .0) (q .1) (q .2)
 
 same-length-9 : tie.Need-same-length-9
 same-length-9 c = search needs
@@ -81,24 +86,7 @@ same-length-10 c = search needs
 
 returns-3 : tie.Need-returns-3
 returns-3 c =
-    search state-commit
-
-same-length-11 : tie.Need-same-length-11
-same-length-11 c = search needs
-
-same-length-12 : tie.Need-same-length-12
-same-length-12 c = search needs
-
-returns-4 : tie.Need-returns-4
-returns-4 c =
-    search state-abort
-
-same-length-13 : tie.Need-same-length-13
-same-length-13 c = search needs
-
-returns-5 : tie.Need-returns-5
-returns-5 c =
-    search state-no-kind
+    search state-end
 
 pub note-spec : {M : Type 1} → statement M
 note-spec =
@@ -111,8 +99,8 @@ note-spec =
     note-read-requires
     last-writer-requires
     note-write-requires
+    end-code-requires
     slice-write-ends
-    slice-write-ends-2
     same-length
     same-length-2
     same-length-3
@@ -125,9 +113,4 @@ note-spec =
     returns-2
     same-length-9
     same-length-10
-    returns-3
-    same-length-11
-    same-length-12
-    returns-4
-    same-length-13
-    returns-5)
+    returns-3)

@@ -23,10 +23,6 @@ transaction-at-requires : tie.Need-transaction-at-requires Inv-loop μ-loop
 transaction-at-requires c κs =
     search walked-long
 
-cast-v : tie.Need-cast-v Inv-loop μ-loop
-cast-v c =
-    search needs
-
 look-requires : tie.Need-look-requires Inv-loop μ-loop
 look-requires c κs =
     search walked-range
@@ -51,14 +47,5 @@ pub readers-spec : {M : Type 1} → statement M
 readers-spec =
     tie.close
     (tie.spec
-    Inv-loop
-    μ-loop
-    at-requires
-    loop-holds
-    transaction-at-requires
-    cast-v
-    look-requires
-    at-requires-2
-    loop-less
-    loop-again
-    returns)
+    Inv-loop μ-loop at-requires loop-holds transaction-at-requires
+    (λ c. search needs) look-requires at-requires-2 loop-less loop-again returns)

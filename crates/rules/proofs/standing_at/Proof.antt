@@ -14,9 +14,6 @@ transaction-at-requires : tie.Need-transaction-at-requires
 transaction-at-requires c κs =
     search last-long
 
-cast-v : tie.Need-cast-v
-cast-v c = search needs
-
 shared-slice-read-if1 : tie.Need-shared-slice-read-if1
 shared-slice-read-if1 c =
     search last-ends
@@ -45,12 +42,5 @@ pub standing-at-spec : {M : Type 1} → statement M
 standing-at-spec =
     tie.close
     (tie.spec
-    at-requires
-    transaction-at-requires
-    cast-v
-    shared-slice-read-if1
-    at-requires-2
-    record-at-requires
-    record-at-requires-2
-    returns
-    returns-2)
+    at-requires transaction-at-requires
+    (λ c. search needs) shared-slice-read-if1 at-requires-2 record-at-requires record-at-requires-2 returns returns-2)

@@ -7,7 +7,7 @@ use lib.ListN.{length-set}
 use borrow.Author.Needs.{needs}
 use borrow.Fn.Kinds.{In}
 use borrow.Fn.PlainCycle.{Measures, is, falls, and}
-use Rattle.text.proofs.PutsLaws.{room-few, put-few, room-front, room-last, put-many}
+use Rattle.text.proofs.PutsLaws.{room-few, put-few, fits-tenth, room-last, put-many}
 use Rattle.text.proofs.put_decimal.Reads as put-decimal
 use Rattle.text.proofs.put_decimal.Kinds as put-decimal-kinds
 use Rattle.text.proofs.+put_decimal.Lts-put_decimal as put-decimal-lts
@@ -30,7 +30,7 @@ slice-write-out t c = let s = c .before .before in room-few (s .args .at) (s .ar
 requires : (t : ℕ) → put-decimal-lts.Need-put-decimal-requires (put-decimal-below t, put-decimal.Post) (put-decimal-at t) put-decimal.Post
 requires t c κs =
     let s = c .before .before .before in
-    (omega (arith, s .pre .0), room-front (s .args .at) (s .args .x) (now (s .args .out)) (c .before .if1 .left) (omega arith) (s .pre .1))
+    (omega (arith, s .pre .0), fits-tenth (s .args .at) (s .args .x) (now (s .args .out)) (c .before .if1 .left) (omega arith) (s .pre .1))
 
 slice-write-out-2 : (t : ℕ) → put-decimal-lts.Need-slice-write-out-2 (put-decimal-below t, put-decimal.Post) (put-decimal-at t) put-decimal.Post
 slice-write-out-2 t c =

@@ -1,7 +1,7 @@
 -- `trace::feeder_at` meets its contract: a number behind the end is 0.
 -- Assumes nothing.
 use borrow.Author.Needs.{needs}
-use Rattle.trace.proofs.CodesLaws.{none-behind}
+use Rattle.lists.proofs.TablesLaws.{none-behind}
 use Rattle.trace.proofs.feeder_at.Statement.{statement}
 use Rattle.trace.proofs.feeder_at.Tie as tie
 

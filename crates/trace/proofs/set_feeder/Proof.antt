@@ -1,7 +1,7 @@
 -- `trace::set_feeder` meets its contract: a store behind the end changes nothing.
 -- Assumes nothing.
 use borrow.Author.Needs.{needs}
-use Rattle.trace.proofs.CodesLaws.{set-behind}
+use Rattle.lists.proofs.TablesLaws.{set-behind}
 use Rattle.trace.proofs.set_feeder.Statement.{statement}
 use Rattle.trace.proofs.set_feeder.Tie as tie
 

@@ -3,7 +3,7 @@
 use denote.Ref.{now}
 use mathlib.Core.Path.{_∙_}
 use borrow.Author.Needs.{needs}
-use Rattle.undo.proofs.Examining.{never-counts, ends-zero, left-counts}
+use Rattle.examine.proofs.Examining.{never-counts, ends-zero, left-counts}
 use Rattle.undo.proofs.ResultLaws.{result-head}
 use Rattle.undo.proofs.undo.Statement.{statement}
 use Rattle.undo.proofs.undo.Tie as tie

@@ -21,27 +21,12 @@ loop-holds : tie.Need-loop-holds Inv-loop μ-loop
 loop-holds c =
     (omega arith, omega arith, search count-start, omega arith)
 
-is-active-requires : tie.Need-is-active-requires Inv-loop μ-loop
-is-active-requires c κs =
-    omega arith
-
-add-count : tie.Need-add-count Inv-loop μ-loop
-add-count c =
-    omega arith
-
-add-s : tie.Need-add-s Inv-loop μ-loop
-add-s c =
-    omega arith
-
-loop-less : tie.Need-loop-less Inv-loop μ-loop
-loop-less c =
-    omega arith
-
 loop-again : tie.Need-loop-again Inv-loop μ-loop
 loop-again c =
-    let l = c .before .before .before .loop in
-    let a = c .before .before .before .before .before .before .args in
-    let f = activeIn (now (a .ends)) (now (a .firsts)) in
+    let t : tie.In-loop Inv-loop μ-loop = search in
+    let a : tie.Start Inv-loop μ-loop = search in
+    let l = t .before .loop in
+    let f = activeIn (now (a .args .ends)) (now (a .args .firsts)) in
     let r = c .before .is-active in
     ⊎-elim
     (λ w. (omega arith, omega arith, w .1 ∙ count-yes f (l .s) (l .count) (l .inv .0) (l .inv .2) (r .result) (r .ensures) (w .0 .taken), omega arith))
@@ -56,12 +41,5 @@ pub active-count-spec : {M : Type 1} → statement M
 active-count-spec =
     tie.close
     (tie.spec
-    Inv-loop
-    μ-loop
-    loop-holds
-    is-active-requires
-    add-count
-    add-s
-    loop-less
-    loop-again
-    returns)
+    Inv-loop μ-loop loop-holds
+    (λ c κs. omega arith) (λ c. omega arith) (λ c. omega arith) (λ c. omega arith) loop-again returns)

@@ -18,10 +18,6 @@ loop-holds : tie.Need-loop-holds Inv-loop μ-loop
 loop-holds c =
     (omega arith, search back-start, search back-start-low)
 
-sub-i : tie.Need-sub-i Inv-loop μ-loop
-sub-i c =
-    omega arith
-
 slice-aggregate-step-back : tie.Need-slice-aggregate-step-back Inv-loop μ-loop
 slice-aggregate-step-back c =
     search slots-count
@@ -29,10 +25,6 @@ slice-aggregate-step-back c =
 step-back-requires : tie.Need-step-back-requires Inv-loop μ-loop
 step-back-requires c κs =
     (omega arith, omega arith, omega arith, search slots-same)
-
-loop-less : tie.Need-loop-less Inv-loop μ-loop
-loop-less c =
-    omega arith
 
 loop-again : tie.Need-loop-again Inv-loop μ-loop
 loop-again c =
@@ -46,12 +38,6 @@ pub broken-link-spec : {M : Type 1} → statement M
 broken-link-spec =
     tie.close
     (tie.spec
-    Inv-loop
-    μ-loop
-    loop-holds
-    sub-i
-    slice-aggregate-step-back
-    step-back-requires
-    loop-less
-    loop-again
-    returns)
+    Inv-loop μ-loop loop-holds
+    (λ c. omega arith) slice-aggregate-step-back step-back-requires
+    (λ c. omega arith) loop-again returns)

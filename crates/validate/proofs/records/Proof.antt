@@ -1,7 +1,7 @@
 -- `validate::records` meets its contract. The loop: the first i records passed, the arrays are those after them, and what is left decides.
 -- Assumes nothing.
 use Rattle.validate.specs.Chain.{lowestBroken}
-use Rattle.validate.proofs.Pass.{done-state, ready-at, none-passed, all-left, verdict-refused, verdict-passed, passed-more, formed-more, not-passed, none-left, same-ends, same-firsts, same-writes, same-bases, same-reads, same-links}
+use Rattle.validate.proofs.Pass.{done-state, ready-at, sighted-at, none-passed, all-left, verdict-refused, verdict-passed, passed-more, formed-more, not-passed, none-left, Lengths, same-lengths}
 use denote.Ref.{now}
 use borrow.Author.Needs.{needs}
 use native.Mathlib.Omega.{arith}
@@ -22,159 +22,98 @@ abbrev μ-loop : tie.MeasureT-loop
 μ-loop journal n keys ends₀ firsts₀ writes₀ bases₀ reads₀ links₀ low i₀ ends firsts writes bases reads links i =
     n - i
 
-broken-link-requires : tie.Need-broken-link-requires Inv-loop μ-loop
-broken-link-requires c κs =
-    search needs
+-- places: the entry of the function from the loop's head, the loop's head from a record that is refused
+abbrev entry : tie.At-loop Inv-loop μ-loop → tie.Start Inv-loop μ-loop
+entry l = l .before .before .before .before .before .before .before .before .before
+
+abbrev head : tie.After-enum-told2 Inv-loop μ-loop → tie.At-loop Inv-loop μ-loop
+head c = c .before .before .before .before .before .before .before .before .before .before
+
+-- the arrays are as long as they came
+lengths : (l : tie.At-loop Inv-loop μ-loop)
+    → Lengths (now (entry l .args .ends)) (now (entry l .args .firsts)) (now (entry l .args .writes)) (now (entry l .args .bases)) (now (entry l .args .reads)) (now (entry l .args .links)) (l .loop .ends) (l .loop .firsts) (l .loop .writes) (l .loop .bases) (l .loop .reads) (l .loop .links)
+lengths l = same-lengths (entry l .pre .1) (l .loop .inv .3)
 
 loop-holds : tie.Need-loop-holds Inv-loop μ-loop
 loop-holds c =
     (omega arith, search none-passed, search all-left, search)
 
-add-record-at : tie.Need-add-record-at Inv-loop μ-loop
-add-record-at c =
-    omega arith
-
-record-at-requires : tie.Need-record-at-requires Inv-loop μ-loop
-record-at-requires c κs =
-    omega arith
-
 check-record-requires : tie.Need-check-record-requires Inv-loop μ-loop
 check-record-requires c κs =
-    let l = c .before .before .before .before .before .before .before .loop in
-    let a = c .before .before .before .before .before .before .before .before .before .before .before .before .before .before .before .before in
+    let r : tie.After-record-at Inv-loop μ-loop = search in
+    let t : tie.In-loop Inv-loop μ-loop = search in
+    let w : tie.After-broken-link Inv-loop μ-loop = search in
+    let a = entry (t .before) in
     let b = now (a .args .journal) in
+    let l = t .before .loop in
     let o = a .pre .0 in
     let s = l .inv .3 in
-    let h = c .before .before .before .before .before .before .loop-test .taken in
-    (ready-at b (a .args .n) (a .args .keys) (l .i) o (l .inv .1) (l .inv .0), s .ended, s .written, s .based, s .sighted, s .linked, o .keys, c .before .before .before .before .before .before .before .before .broken-link .ensures ∙ ap (lowestBroken b 1) (o .counted), omega (arith, o .counted, h), c .before .before .before .before .before .record-at .ensures)
-
-enum-told : tie.Need-enum-told Inv-loop μ-loop
-enum-told c =
-    search needs
-
-enum-told-2 : tie.Need-enum-told-2 Inv-loop μ-loop
-enum-told-2 c =
-    search needs
-
-same-length : tie.Need-same-length Inv-loop μ-loop
-same-length c =
-    search same-ends
-
-same-length-2 : tie.Need-same-length-2 Inv-loop μ-loop
-same-length-2 c =
-    search same-firsts
-
-same-length-3 : tie.Need-same-length-3 Inv-loop μ-loop
-same-length-3 c =
-    search same-writes
-
-same-length-4 : tie.Need-same-length-4 Inv-loop μ-loop
-same-length-4 c =
-    search same-bases
-
-same-length-5 : tie.Need-same-length-5 Inv-loop μ-loop
-same-length-5 c =
-    search same-reads
-
-same-length-6 : tie.Need-same-length-6 Inv-loop μ-loop
-same-length-6 c =
-    search same-links
+    (ready-at b (a .args .n) (a .args .keys) (l .i) o (l .inv .1) (l .inv .0), s .ended, s .written, s .based, s .sighted, s .linked, o .keys, w .broken-link .ensures ∙ ap (lowestBroken b 1) (o .counted), omega (arith, o .counted, t .loop-test .taken), r .record-at .ensures, sighted-at b (a .args .n) (a .args .keys) (l .i) o (l .inv .1))
 
 returns : tie.Need-returns Inv-loop μ-loop
 returns c =
-    let l = c .before .before .before .before .before .before .before .before .before .before .loop in
-    let a = c .before .before .before .before .before .before .before .before .before .before .before .before .before .before .before .before .before .before .before in
-    let v = c .before .before .check-record in
-    (verdict-refused (now (a .args .journal)) (a .args .n) (l .i) (c .before .before .before .before .before .before .before .before .before .loop-test .taken) (l .inv .2) (v .result) (v .ensures) _ (c .enum-told2 .given .1), not-passed (v .result) _ (c .enum-told2 .given .1))
+    let k : tie.After-check-record Inv-loop μ-loop = search in
+    let t : tie.In-loop Inv-loop μ-loop = search in
+    let a = entry (t .before) in
+    let l = t .before .loop in
+    let v = k .check-record in
+    let e = c .enum-told2 .given .1 in
+    (verdict-refused (now (a .args .journal)) (a .args .n) (l .i) (t .loop-test .taken) (l .inv .2) (v .result) (v .ensures) _ e, not-passed (v .result) _ e)
 
 note-requires : tie.Need-note-requires Inv-loop μ-loop
 note-requires c κs =
-    let l = c .before .before .before .before .before .before .before .before .before .before .before .before .before .before .before .before .loop in
-    let a = c .before .before .before .before .before .before .before .before .before .before .before .before .before .before .before .before .before .before .before .before .before .before .before .before .before in
+    let p : tie.After-enum-told Inv-loop μ-loop = search in
+    let k : tie.After-check-record Inv-loop μ-loop = search in
+    let r : tie.After-record-at Inv-loop μ-loop = search in
+    let t : tie.In-loop Inv-loop μ-loop = search in
+    let a = entry (t .before) in
     let b = now (a .args .journal) in
+    let l = t .before .loop in
     let o = a .pre .0 in
-    let v = c .before .before .before .before .before .before .before .before .check-record in
-    let h = c .before .before .before .before .before .before .before .before .before .before .before .before .before .before .before .loop-test .taken in
-    (ready-at b (a .args .n) (a .args .keys) (l .i) o (l .inv .1) (l .inv .0), omega (arith, o .few, h), l .inv .3, formed-more b (l .i) (l .inv .1) (v .result) (c .before .before .before .before .before .before .enum-told .given .1) (v .ensures) (c .before .before .before .before .before .before .before .before .before .before .before .before .before .before .record-at .result) (c .before .before .before .before .before .before .before .before .before .before .before .before .before .before .record-at .ensures), c .before .before .before .before .before .before .before .before .before .before .before .before .before .before .record-at .ensures)
+    let v = k .check-record in
+    let q = r .record-at in
+    (ready-at b (a .args .n) (a .args .keys) (l .i) o (l .inv .1) (l .inv .0), omega (arith, o .few, t .loop-test .taken), l .inv .3, formed-more b (l .i) (l .inv .1) (v .result) (p .enum-told .given .1) (v .ensures) (q .result) (q .ensures), q .ensures)
 
 add-i : tie.Need-add-i Inv-loop μ-loop
 add-i c =
-    let h = c .before .before .before .before .before .before .before .before .before .before .before .before .before .before .before .before .before .before .before .before .before .before .before .before .before .before .before .before .loop-test .taken in
-    omega (arith, h, c .before .before .before .before .before .before .before .before .before .before .before .before .before .before .before .before .before .before .before .before .before .before .before .before .before .before .before .before .before .before .before .before .before .before .before .before .before .before .pre .0 .few)
+    let t : tie.In-loop Inv-loop μ-loop = search in
+    let a = entry (t .before) in
+    omega (arith, t .loop-test .taken, a .pre .0 .few)
 
 loop-less : tie.Need-loop-less Inv-loop μ-loop
 loop-less c =
-    let h = c .before .before .before .before .before .before .before .before .before .before .before .before .before .before .before .before .before .before .before .before .before .before .before .before .before .before .before .before .loop-test .taken in
-    omega (arith, h)
+    let t : tie.In-loop Inv-loop μ-loop = search in
+    omega (arith, t .loop-test .taken)
 
 loop-again : tie.Need-loop-again Inv-loop μ-loop
 loop-again c =
-    let l = c .before .before .before .before .before .before .before .before .before .before .before .before .before .before .before .before .before .before .before .before .before .before .before .before .before .before .before .before .before .loop in
-    let a = c .before .before .before .before .before .before .before .before .before .before .before .before .before .before .before .before .before .before .before .before .before .before .before .before .before .before .before .before .before .before .before .before .before .before .before .before .before .before in
+    let n : tie.After-note Inv-loop μ-loop = search in
+    let p : tie.After-enum-told Inv-loop μ-loop = search in
+    let k : tie.After-check-record Inv-loop μ-loop = search in
+    let t : tie.In-loop Inv-loop μ-loop = search in
+    let a = entry (t .before) in
     let b = now (a .args .journal) in
-    let v = c .before .before .before .before .before .before .before .before .before .before .before .before .before .before .before .before .before .before .before .before .before .check-record in
-    let h = c .before .before .before .before .before .before .before .before .before .before .before .before .before .before .before .before .before .before .before .before .before .before .before .before .before .before .before .before .loop-test .taken in
-    let t = c .before .before .before .before .before .before .before .before .before .before .before .before .before .before .before .before .before .before .before .enum-told .given .1 in
-    (omega (arith, h), passed-more b (l .i) (l .inv .1) (v .result) t (v .ensures), verdict-passed b (a .args .n) (l .i) h (l .inv .2) (v .result) (v .ensures) t, c .before .before .before .before .before .before .before .before .before .before .before .before .note .ensures)
-
-same-length-7 : tie.Need-same-length-7 Inv-loop μ-loop
-same-length-7 c =
-    search same-ends
-
-same-length-8 : tie.Need-same-length-8 Inv-loop μ-loop
-same-length-8 c =
-    search same-firsts
-
-same-length-9 : tie.Need-same-length-9 Inv-loop μ-loop
-same-length-9 c =
-    search same-writes
-
-same-length-10 : tie.Need-same-length-10 Inv-loop μ-loop
-same-length-10 c =
-    search same-bases
-
-same-length-11 : tie.Need-same-length-11 Inv-loop μ-loop
-same-length-11 c =
-    search same-reads
-
-same-length-12 : tie.Need-same-length-12 Inv-loop μ-loop
-same-length-12 c =
-    search same-links
+    let l = t .before .loop in
+    let v = k .check-record in
+    let e = p .enum-told .given .1 in
+    (omega (arith, t .loop-test .taken), passed-more b (l .i) (l .inv .1) (v .result) e (v .ensures), verdict-passed b (a .args .n) (l .i) (t .loop-test .taken) (l .inv .2) (v .result) (v .ensures) e, n .note .ensures)
 
 returns-2 : tie.Need-returns-2 Inv-loop μ-loop
 returns-2 c =
+    let a = entry (c .before) in
     let l = c .before .loop in
-    let a = c .before .before .before .before .before .before .before .before .before .before in
     (none-left (now (a .args .journal)) (a .args .n) (l .i) (c .loop-test .left) (l .inv .2), λ z. search (done-state, l .inv .3, l .inv .0, c .loop-test .left))
 
 pub records-spec : {M : Type 1} → statement M
 records-spec =
     tie.close
     (tie.spec
-    Inv-loop
-    μ-loop
-    broken-link-requires
-    loop-holds
-    add-record-at
-    record-at-requires
-    check-record-requires
-    enum-told
-    enum-told-2
-    same-length
-    same-length-2
-    same-length-3
-    same-length-4
-    same-length-5
-    same-length-6
-    returns
-    note-requires
-    add-i
-    loop-less
-    loop-again
-    same-length-7
-    same-length-8
-    same-length-9
-    same-length-10
-    same-length-11
-    same-length-12
-    returns-2)
+    Inv-loop μ-loop
+    (λ c κs. search needs) loop-holds
+    (λ c. omega arith) (λ c κs. omega arith) check-record-requires
+    (λ c. search needs) (λ c. search needs)
+    (λ c. lengths (head c) .ends) (λ c. lengths (head c) .firsts) (λ c. lengths (head c) .writes)
+    (λ c. lengths (head c) .bases) (λ c. lengths (head c) .reads) (λ c. lengths (head c) .links) returns
+    note-requires add-i loop-less loop-again
+    (λ c. lengths (c .before) .ends) (λ c. lengths (c .before) .firsts) (λ c. lengths (c .before) .writes)
+    (λ c. lengths (c .before) .bases) (λ c. lengths (c .before) .reads) (λ c. lengths (c .before) .links) returns-2)

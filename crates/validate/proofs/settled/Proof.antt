@@ -14,30 +14,10 @@ returns : tie.Need-returns
 returns c =
     search settled-unwritten
 
-standing-at-requires : tie.Need-standing-at-requires
-standing-at-requires c κs = search needs
-
-mul-same : tie.Need-mul-same
-mul-same c = search needs
-
-shared-slice-copy-out-same : tie.Need-shared-slice-copy-out-same
-shared-slice-copy-out-same c = search needs
-
-same-requires : tie.Need-same-requires
-same-requires c κs = search needs
-
 returns-2 : tie.Need-returns-2
 returns-2 c =
     search (settled-written, needs)
 
 pub settled-spec : {M : Type 1} → statement M
 settled-spec =
-    tie.close
-    (tie.spec
-    at-requires
-    returns
-    standing-at-requires
-    mul-same
-    shared-slice-copy-out-same
-    same-requires
-    returns-2)
+    tie.close (tie.spec at-requires returns (λ c κs. search needs) (λ c. search needs) (λ c. search needs) (λ c κs. search needs) returns-2)

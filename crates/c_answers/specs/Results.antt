@@ -1,0 +1,19 @@
+-- What the C interface hands over of an answer: the refusal's number, 0 if the call is accepted, and the place or the value answered.
+-- Assumes nothing.
+use Prim.Native.Nat.{ℕ}
+use Rattle.journal.specs.Calls.{Answer, refused, accepted}
+
+-- the result: the refusal's number, 0 if accepted
+abbrev pub resultOf : {A : Type 0} → Answer A → ℕ
+resultOf (refused n p) = n
+resultOf (accepted a) = 0
+
+-- what `answer` gets: the refusal's place, or what f makes of the value
+abbrev pub answerWith : {A : Type 0} → (A → ℕ) → Answer A → ℕ
+answerWith f (refused n p) = p
+answerWith f (accepted a) = f a
+
+-- a loan that is written only where the call is accepted, with what f makes of the value
+abbrev pub loanWith : {A B : Type 0} → (A → B) → B → Answer A → B
+loanWith f old (refused n p) = old
+loanWith f old (accepted a) = f a

@@ -1,0 +1,2 @@
+pub mod StagesLaws
+pub mod Examining

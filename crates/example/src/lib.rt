@@ -1,0 +1,1 @@
+// The example of document 01 in bytes; no code.

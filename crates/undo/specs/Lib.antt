@@ -1,2 +1,0 @@
-pub mod Stages
-pub mod Answers

@@ -1,0 +1,4 @@
+pub mod Examples
+pub mod PostingDay
+pub mod WorkedDays
+pub mod Reports

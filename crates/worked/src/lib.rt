@@ -1,0 +1,1 @@
+// Worked instances of the statements of `demands` and of the report, as theorems; no code.
