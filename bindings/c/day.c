@@ -31,7 +31,9 @@ static const struct entry day[] = {
 /* Ends the program unless the call was accepted. */
 static void accept(uint32_t number, uint64_t place) {
     if (number == 0) return;
-    fprintf(stderr, "refused, %s, place %" PRIu64 "\n", journal_refusal_word(number), place);
+    fprintf(stderr, "refused, %s", journal_refusal_word(number));
+    if (number != JOURNAL_REASON_LOANS) fprintf(stderr, ", place %" PRIu64, place);
+    fprintf(stderr, "\n");
     exit(1);
 }
 

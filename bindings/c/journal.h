@@ -1,5 +1,6 @@
 /*
- * The depot journal (document 01): start, post, check, slip and take-back, as a proved static library.
+ * The depot journal (document 01): start, post, check, slip and take-back, and the count of a stored journal, as a proved static
+ * library.
  *
  * Link target/staticlib/libcapi.a, which `rt staticlib capi` writes: x86-64 Linux, position independent, one object. It needs
  * memcpy and memset of the C library and nothing else: no flag, no run-time library, no initialisation.
@@ -37,8 +38,8 @@
  * Loans. A loan is a pointer and the number of its elements behind it (not of bytes), lent for the time of the call. Every pointer
  * must be valid for that many elements and aligned for its element: 1 byte for journal, status and out, 2 for bad, 4 for table, lsns,
  * counts, surviving, undone and aborted, 8 for answer. What is read must be initialised; status, out, lsns, surviving,
- * undone, aborted, answer, start's journal and the bytes behind a journal's last record need not be. A loan that the call writes must
- * not overlap any other of its loans; `answer`, counts, surviving, undone and aborted are written.
+ * undone, aborted, answer, start's journal, count's counts and the bytes behind a journal's last record need not be. A loan that the
+ * call writes must not overlap any other of its loans; `answer`, counts, surviving, undone and aborted are written.
  *
  * In place. So there is no undo in place: out must not be the journal. The library alone would accept out == journal, write the copy
  * over the records from which the table is still to be worked out, and leave wrong amounts that journal_check passes. Lend an out of its
@@ -46,9 +47,13 @@
  *
  * Checked calls. Under the usual names stand checked forms of the calls. They return JOURNAL_REASON_LOANS (101, "loans") where a written
  * loan overlaps another, a pointer is not aligned, is null with a length above 0, or has a length that runs past the last address. Then
- * nothing is written, `answer` neither, and the library is not called. An empty loan overlaps nothing. That a pointer is valid for its
- * length cannot be checked. Where JOURNAL_UNCHECKED is defined before this file is read, the usual names are the library's functions,
- * which check none of this.
+ * nothing is written, `answer` keeps its old value, and the library is not called. An empty loan overlaps nothing. That a pointer is
+ * valid for its length cannot be checked. Where JOURNAL_UNCHECKED is defined before this file is read, the usual names are the library's
+ * functions, which check none of this.
+ *
+ * Version. JOURNAL_INTERFACE is the number of this interface; it rises when a signature changes. The archive has a function of that
+ * number, journal_interface_1, which every checked form calls: a program compiled with this file does not link with an archive of another
+ * number.
  *
  * Null. A null pointer with length 0 is an empty loan, for every loan with a length: nothing is read or written through it. What
  * the calls give: 1 for journal, 3 for table, 13 for status, 14 for out and lsns (each unless a refusal before it applies); for bad
@@ -60,12 +65,12 @@
  *
  * Memory. No call allocates; working arrays are on the stack. Measured use is below, JOURNAL_STACK_*.
  *
- * Time. Append, check, chain and undo go over all records at each call (docs/PERFORMANCE.md has figures).
+ * Time. Every call but start goes over all records, journal_append too (docs/PERFORMANCE.md has figures).
  *
  * Crash. If the process or the machine stops during a call, what is lent to be written may be written in part. The caller guards
- * against that: call on copies in memory, then store journal and table (and the counts) together under another name, flush them to
- * the disk, and put them in place by one rename, of one file or of one folder. Two renames are not enough: after an undo, the copy with
- * the old table can pass journal_check with wrong amounts, since 10 looks at written items only. bindings/rust/examples/keep.rs does so.
+ * against that: call on copies in memory, then store journal and table together under another name, flush them to the disk, and put them
+ * in place by one rename, of one file or of one folder. Two renames are not enough: after an undo, the copy with the old table can pass
+ * journal_check with wrong amounts, since 10 looks at written items only. bindings/c/keep.c does so.
  */
 #ifndef JOURNAL_H
 #define JOURNAL_H
@@ -86,6 +91,9 @@ extern "C" {
 #define JOURNAL_MUST_USE
 #endif
 
+/* The number of this interface, see "Version". */
+#define JOURNAL_INTERFACE 1
+
 /* Limits. */
 #define JOURNAL_RECORD_BYTES 20      /* the head and each record */
 #define JOURNAL_MAX_RECORDS 3200     /* records of a journal, the head not counted; they are numbered from 1 */
@@ -105,7 +113,7 @@ enum journal_kind {
     JOURNAL_KIND_ABORT = 4 /* "rollback" */
 };
 
-/* The counts that journal_append is lent: where each kind of record is counted. */
+/* The counts that journal_append and journal_count_records are lent: where each kind of record is counted. */
 enum journal_count {
     JOURNAL_COUNT_READS = 0,
     JOURNAL_COUNT_WRITES = 1,
@@ -147,15 +155,17 @@ enum journal_reason {
 };
 
 /*
- * Bytes of stack that each call takes: measured, and rounded up to a multiple of 4,096 (start: 1,024). The checked form and memcpy and
- * memset of the C library are included, signal handlers are not. bindings/c/stack.c measures on a painted stack, over days of 3,200
- * records with 1,024 transactions and with one, damaged days and refused calls; it is run at every test and fails above these figures.
+ * Bytes of stack that each call takes: measured, and rounded up to a multiple of 4,096 (start and count: 1,024). The checked form and
+ * memcpy and memset of the C library are included, signal handlers are not. bindings/c/stack.c measures on a painted stack, over days of
+ * 3,200 records with 1,024 transactions and with one, damaged days and refused calls; it is run at every test and fails above these
+ * figures.
  */
 #define JOURNAL_STACK_START 1024
 #define JOURNAL_STACK_APPEND 36864
 #define JOURNAL_STACK_CHECK 36864
 #define JOURNAL_STACK_CHAIN 36864
 #define JOURNAL_STACK_UNDO 45056
+#define JOURNAL_STACK_COUNT_RECORDS 1024
 
 /*
  * Starts a journal of this many items, without records ("start"). Answers 0.
@@ -175,7 +185,7 @@ uint32_t journal_start(uint8_t *journal, size_t journal_length, uint32_t items, 
  * table: one amount per item; read, and written where accepted: by a write its item, by an abort every item that the transaction
  *     wrote, which returns to the before image of the transaction's first write of it.
  * counts: how many reads, writes, commits and aborts the journal has, see enum journal_count; read, and written where accepted: one
- *     of them rises by one. All are 0 for a journal just started.
+ *     of them rises by one. All are 0 for a journal just started; journal_count_records gives those of a stored journal or a copy.
  * kind, transaction, item, after: of the new record. after must be 0 unless it is a write, item must be 0 for a commit or an abort.
  *
  * Refusals in order: 1 (under 20 bytes), 2, 1 (whole length), 3; 4 to 9, the lowest record first, at one record the lowest number;
@@ -184,6 +194,18 @@ uint32_t journal_start(uint8_t *journal, size_t journal_length, uint32_t items, 
 JOURNAL_MUST_USE
 uint32_t journal_append(uint8_t *journal, size_t journal_length, int32_t *table, size_t table_length, uint32_t counts[JOURNAL_COUNTS],
                         uint8_t kind, uint16_t transaction, uint32_t item, int32_t after, uint64_t *answer);
+
+/*
+ * Counts the records of a stored journal, or of the copy that journal_undo wrote, by kind (the "tally"), so that journal_append can go on
+ * with it. Answers 0. No record is checked, and one of another kind is in none of the counts: journal_append checks all of them.
+ *
+ * journal: read only.
+ * counts: written where accepted, all four, see enum journal_count. They are not read.
+ *
+ * Refusals in order: 1 (under 20 bytes), 2, 1 (whole length). Place 0.
+ */
+JOURNAL_MUST_USE
+uint32_t journal_count_records(const uint8_t *journal, size_t journal_length, uint32_t counts[JOURNAL_COUNTS], uint64_t *answer);
 
 /*
  * Checks a journal with its table ("check"). Answers how many transactions are active.
@@ -218,7 +240,7 @@ uint32_t journal_chain(const uint8_t *journal, size_t journal_length, uint16_t t
  *
  * journal: read only.
  * table: one amount per item; read, and written where accepted: the opening amounts, with the after of every surviving write set in
- *     record order.
+ *     record order. Copy it first if you may have to go back: after the call it belongs to the copy and not to the journal.
  * bad: numbers of committed transactions; read only. It may be empty, and a number may be repeated.
  * status: written where accepted, all 1,025 bytes, see enum journal_status. It is not read.
  * out: written where accepted: as many bytes from the front as the call answers, at most those of the journal's records and head; the
@@ -232,6 +254,9 @@ JOURNAL_MUST_USE
 uint32_t journal_undo(const uint8_t *journal, size_t journal_length, int32_t *table, size_t table_length, const uint16_t *bad,
                       size_t bad_length, uint8_t *status, size_t status_length, uint8_t *out, size_t out_length, uint32_t *surviving,
                       uint32_t *undone, uint32_t *aborted, uint64_t *answer);
+
+/* The number of the archive's interface, JOURNAL_INTERFACE. An archive of another one has no function of this name. */
+uint32_t journal_interface_1(void);
 
 /* Document 01's word for the number of a refusal; "accepted" for 0, "?" for a number that no call returns. */
 static inline const char *journal_refusal_word(uint32_t number) {
@@ -376,6 +401,7 @@ JOURNAL_MUST_USE
 static inline uint32_t journal_checked_start(uint8_t *journal, size_t journal_length, uint32_t items, uint64_t *answer) {
     const struct journal_loan loans[] = {JOURNAL_WRITES(journal, journal_length), JOURNAL_WRITES(answer, 1)};
     if (!JOURNAL_GOOD(loans)) return JOURNAL_REASON_LOANS;
+    journal_interface_1();
     return journal_start(journal, journal_length, items, answer);
 }
 
@@ -386,7 +412,18 @@ static inline uint32_t journal_checked_append(uint8_t *journal, size_t journal_l
     const struct journal_loan loans[] = {JOURNAL_WRITES(journal, journal_length), JOURNAL_WRITES(table, table_length),
                                          JOURNAL_WRITES(counts, JOURNAL_COUNTS), JOURNAL_WRITES(answer, 1)};
     if (!JOURNAL_GOOD(loans)) return JOURNAL_REASON_LOANS;
+    journal_interface_1();
     return journal_append(journal, journal_length, table, table_length, counts, kind, transaction, item, after, answer);
+}
+
+JOURNAL_MUST_USE
+static inline uint32_t journal_checked_count_records(const uint8_t *journal, size_t journal_length, uint32_t counts[JOURNAL_COUNTS],
+                                                     uint64_t *answer) {
+    const struct journal_loan loans[] = {JOURNAL_READS(journal, journal_length), JOURNAL_WRITES(counts, JOURNAL_COUNTS),
+                                         JOURNAL_WRITES(answer, 1)};
+    if (!JOURNAL_GOOD(loans)) return JOURNAL_REASON_LOANS;
+    journal_interface_1();
+    return journal_count_records(journal, journal_length, counts, answer);
 }
 
 JOURNAL_MUST_USE
@@ -395,6 +432,7 @@ static inline uint32_t journal_checked_check(const uint8_t *journal, size_t jour
     const struct journal_loan loans[] = {JOURNAL_READS(journal, journal_length), JOURNAL_READS(table, table_length),
                                          JOURNAL_WRITES(answer, 1)};
     if (!JOURNAL_GOOD(loans)) return JOURNAL_REASON_LOANS;
+    journal_interface_1();
     return journal_check(journal, journal_length, table, table_length, answer);
 }
 
@@ -404,6 +442,7 @@ static inline uint32_t journal_checked_chain(const uint8_t *journal, size_t jour
     const struct journal_loan loans[] = {JOURNAL_READS(journal, journal_length), JOURNAL_WRITES(lsns, lsns_length),
                                          JOURNAL_WRITES(answer, 1)};
     if (!JOURNAL_GOOD(loans)) return JOURNAL_REASON_LOANS;
+    journal_interface_1();
     return journal_chain(journal, journal_length, transaction, lsns, lsns_length, answer);
 }
 
@@ -418,6 +457,7 @@ static inline uint32_t journal_checked_undo(const uint8_t *journal, size_t journ
         JOURNAL_WRITES(undone, 1),              JOURNAL_WRITES(aborted, 1),          JOURNAL_WRITES(answer, 1),
     };
     if (!JOURNAL_GOOD(loans)) return JOURNAL_REASON_LOANS;
+    journal_interface_1();
     return journal_undo(journal, journal_length, table, table_length, bad, bad_length, status, status_length, out, out_length, surviving,
                         undone, aborted, answer);
 }
@@ -428,6 +468,7 @@ static inline uint32_t journal_checked_undo(const uint8_t *journal, size_t journ
 
 #define journal_start journal_checked_start
 #define journal_append journal_checked_append
+#define journal_count_records journal_checked_count_records
 #define journal_check journal_checked_check
 #define journal_chain journal_checked_chain
 #define journal_undo journal_checked_undo

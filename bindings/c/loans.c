@@ -1,8 +1,8 @@
 /*
  * The checked forms of journal.h. Each pair of loans of each call is laid out overlapping by one byte at either end, by one element,
  * at the same place, one inside the other, adjacent at either end, and with one of them empty. Where a written loan overlaps another the
- * call must return 101, call nothing and write nothing; otherwise it must do what the library does. Then null, misaligned and endless
- * loans, and undo in place. Link with --wrap for the five functions, so that calls of the library are counted.
+ * call must return 101, call nothing and write nothing; otherwise it must do what the library does, and ask for its interface. Then null,
+ * misaligned and endless loans, and undo in place. Link with --wrap for each function of the library, so that calls of it are counted.
  */
 #include <stdio.h>
 #include <stdlib.h>
@@ -10,7 +10,7 @@
 
 #include "journal.h"
 
-enum { START, APPEND, CHECK, CHAIN, UNDO, CALLS };
+enum { START, APPEND, COUNT, CHECK, CHAIN, UNDO, CALLS };
 enum { MOST = 9, SLOT = 4096, RECORDS = 4 };
 
 struct loan {
@@ -26,6 +26,7 @@ static const struct call {
 } calls[CALLS] = {
     {"start", 2, {{"journal", 1, JOURNAL_BYTES(RECORDS), 1, 0}, {"answer", 8, 1, 1, 1}}},
     {"append", 4, {{"journal", 1, JOURNAL_BYTES(RECORDS), 1, 0}, {"table", 4, 1, 1, 0}, {"counts", 4, 4, 1, 1}, {"answer", 8, 1, 1, 1}}},
+    {"count_records", 3, {{"journal", 1, JOURNAL_BYTES(RECORDS), 0, 0}, {"counts", 4, 4, 1, 1}, {"answer", 8, 1, 1, 1}}},
     {"check", 3, {{"journal", 1, JOURNAL_BYTES(RECORDS), 0, 0}, {"table", 4, 1, 0, 0}, {"answer", 8, 1, 1, 1}}},
     {"chain", 3, {{"journal", 1, JOURNAL_BYTES(RECORDS), 0, 0}, {"lsns", 4, 3, 1, 0}, {"answer", 8, 1, 1, 1}}},
     {"undo", 9, {{"journal", 1, JOURNAL_BYTES(RECORDS), 0, 0}, {"table", 4, 1, 1, 0}, {"bad", 2, 1, 0, 0},
@@ -42,18 +43,27 @@ struct lent {
 /* The library's functions and, in their place, ones that count. */
 uint32_t __real_journal_start(uint8_t *, size_t, uint32_t, uint64_t *);
 uint32_t __real_journal_append(uint8_t *, size_t, int32_t *, size_t, uint32_t *, uint8_t, uint16_t, uint32_t, int32_t, uint64_t *);
+uint32_t __real_journal_count_records(const uint8_t *, size_t, uint32_t *, uint64_t *);
 uint32_t __real_journal_check(const uint8_t *, size_t, const int32_t *, size_t, uint64_t *);
 uint32_t __real_journal_chain(const uint8_t *, size_t, uint16_t, uint32_t *, size_t, uint64_t *);
 uint32_t __real_journal_undo(const uint8_t *, size_t, int32_t *, size_t, const uint16_t *, size_t, uint8_t *, size_t, uint8_t *, size_t,
                              uint32_t *, uint32_t *, uint32_t *, uint64_t *);
+uint32_t __real_journal_interface_1(void);
 uint32_t __wrap_journal_start(uint8_t *, size_t, uint32_t, uint64_t *);
 uint32_t __wrap_journal_append(uint8_t *, size_t, int32_t *, size_t, uint32_t *, uint8_t, uint16_t, uint32_t, int32_t, uint64_t *);
+uint32_t __wrap_journal_count_records(const uint8_t *, size_t, uint32_t *, uint64_t *);
 uint32_t __wrap_journal_check(const uint8_t *, size_t, const int32_t *, size_t, uint64_t *);
 uint32_t __wrap_journal_chain(const uint8_t *, size_t, uint16_t, uint32_t *, size_t, uint64_t *);
 uint32_t __wrap_journal_undo(const uint8_t *, size_t, int32_t *, size_t, const uint16_t *, size_t, uint8_t *, size_t, uint8_t *, size_t,
                              uint32_t *, uint32_t *, uint32_t *, uint64_t *);
+uint32_t __wrap_journal_interface_1(void);
 
-static unsigned long called, refused, passed;
+static unsigned long called, asked, refused, passed;
+
+uint32_t __wrap_journal_interface_1(void) {
+    asked++;
+    return __real_journal_interface_1();
+}
 
 uint32_t __wrap_journal_start(uint8_t *j, size_t jn, uint32_t items, uint64_t *a) {
     called++;
@@ -64,6 +74,11 @@ uint32_t __wrap_journal_append(uint8_t *j, size_t jn, int32_t *t, size_t tn, uin
                                int32_t after, uint64_t *a) {
     called++;
     return __real_journal_append(j, jn, t, tn, c, kind, transaction, item, after, a);
+}
+
+uint32_t __wrap_journal_count_records(const uint8_t *j, size_t jn, uint32_t *c, uint64_t *a) {
+    called++;
+    return __real_journal_count_records(j, jn, c, a);
 }
 
 uint32_t __wrap_journal_check(const uint8_t *j, size_t jn, const int32_t *t, size_t tn, uint64_t *a) {
@@ -83,20 +98,22 @@ uint32_t __wrap_journal_undo(const uint8_t *j, size_t jn, int32_t *t, size_t tn,
 }
 
 /* A call with these loans: by the checked forms, and by the library. Append posts a commit of transaction 2. */
-#define RUN(name, start, append, check, chain, undo)                                                                               \
+#define RUN(name, start, append, count_records, check, chain, undo)                                                                \
     static uint32_t name(int call, const struct lent *l) {                                                                         \
         void *const *p = l->at;                                                                                                    \
         const size_t *n = l->length;                                                                                               \
         switch (call) {                                                                                                            \
         case START: return start(p[0], n[0], 1, p[1]);                                                                             \
         case APPEND: return append(p[0], n[0], p[1], n[1], p[2], JOURNAL_KIND_COMMIT, 2, 0, 0, p[3]);                              \
+        case COUNT: return count_records(p[0], n[0], p[1], p[2]);                                                                  \
         case CHECK: return check(p[0], n[0], p[1], n[1], p[2]);                                                                    \
         case CHAIN: return chain(p[0], n[0], 1, p[1], n[1], p[2]);                                                                 \
         default: return undo(p[0], n[0], p[1], n[1], p[2], n[2], p[3], n[3], p[4], n[4], p[5], p[6], p[7], p[8]);                   \
         }                                                                                                                          \
     }
-RUN(checked, journal_start, journal_append, journal_check, journal_chain, journal_undo)
-RUN(unchecked, __real_journal_start, __real_journal_append, __real_journal_check, __real_journal_chain, __real_journal_undo)
+RUN(checked, journal_start, journal_append, journal_count_records, journal_check, journal_chain, journal_undo)
+RUN(unchecked, __real_journal_start, __real_journal_append, __real_journal_count_records, __real_journal_check, __real_journal_chain,
+    __real_journal_undo)
 
 /* The memory that everything is lent from, as it was before a call, and after the library's call on it. */
 static unsigned char *arena, *before, *after;
@@ -143,16 +160,17 @@ static void fill(int call, const struct lent *l) {
 static void try(int call, const struct lent *l, int good, size_t i, size_t j) {
     uint32_t number, expected;
     memcpy(before, arena, arena_bytes);
-    called = 0;
+    called = asked = 0;
     number = checked(call, l);
     if (!good) {
         if (number != JOURNAL_REASON_LOANS) fail("not refused", call, i, j);
-        if (called != 0) fail("refused, and the library was called", call, i, j);
+        if (called != 0 || asked != 0) fail("refused, and the library was called", call, i, j);
         if (memcmp(arena, before, arena_bytes) != 0) fail("refused, and something was written", call, i, j);
         refused++;
         return;
     }
     if (called != 1) fail("the library was not called", call, i, j);
+    if (asked != 1) fail("the interface was not asked for", call, i, j);
     memcpy(after, arena, arena_bytes);
     memcpy(arena, before, arena_bytes);
     expected = unchecked(call, l);

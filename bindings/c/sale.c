@@ -1,22 +1,38 @@
-/* One sale of 180 pence, posted and then taken back. */
+/* A sale of 180 pence, posted and then taken back; another, of 150 pence, posted on to what is left. */
 #include <stdio.h>
 #include "journal.h"
 
-int main(void) {
-    uint8_t journal[JOURNAL_BYTES(3)], out[JOURNAL_BYTES(3)], status[JOURNAL_STATUS_BYTES];
-    int32_t table[1] = {500};
-    uint16_t bad[1] = {1};
-    uint32_t counts[JOURNAL_COUNTS] = {0}, surviving, undone, aborted, refused;
-    uint64_t answer = 0;
+enum { ITEMS = 1, ROOM = JOURNAL_BYTES(3) };
 
-    refused = journal_start(journal, sizeof journal, 1, &answer);
-    if (!refused) refused = journal_append(journal, sizeof journal, table, 1, counts, JOURNAL_KIND_READ, 1, 0, 0, &answer);
-    if (!refused) refused = journal_append(journal, sizeof journal, table, 1, counts, JOURNAL_KIND_WRITE, 1, 0, 320, &answer);
-    if (!refused) refused = journal_append(journal, sizeof journal, table, 1, counts, JOURNAL_KIND_COMMIT, 1, 0, 0, &answer);
+static int32_t table[ITEMS] = {500};
+static uint32_t counts[JOURNAL_COUNTS];
+static uint64_t answer;
+
+/* A sale that takes these pence from item 0: a read, a write and a commit. */
+static uint32_t sell(uint8_t journal[ROOM], uint16_t sale, int32_t pence) {
+    uint32_t refused = journal_append(journal, ROOM, table, ITEMS, counts, JOURNAL_KIND_READ, sale, 0, 0, &answer);
+    if (!refused) refused = journal_append(journal, ROOM, table, ITEMS, counts, JOURNAL_KIND_WRITE, sale, 0, table[0] - pence, &answer);
+    if (!refused) refused = journal_append(journal, ROOM, table, ITEMS, counts, JOURNAL_KIND_COMMIT, sale, 0, 0, &answer);
+    return refused;
+}
+
+int main(void) {
+    uint8_t journal[ROOM], out[ROOM], status[JOURNAL_STATUS_BYTES];
+    const uint16_t bad[1] = {1};
+    uint32_t surviving, undone, aborted;
+
+    uint32_t refused = journal_start(journal, ROOM, ITEMS, &answer);
+    if (!refused) refused = sell(journal, 1, 180);
     if (!refused)
-        refused = journal_undo(journal, sizeof journal, table, 1, bad, 1, status, sizeof status, out, sizeof out, &surviving, &undone,
-                               &aborted, &answer);
-    if (refused) printf("refused: %s, place %lu\n", journal_refusal_word(refused), (unsigned long)answer);
-    else printf("%lu taken back, item 0 is %ld\n", (unsigned long)undone, (long)table[0]);
+        refused = journal_undo(journal, ROOM, table, ITEMS, bad, 1, status, sizeof status, out, ROOM, &surviving, &undone, &aborted,
+                               &answer);
+    if (!refused) printf("%lu taken back, item 0 is %ld\n", (unsigned long)undone, (long)table[0]);
+
+    /* The copy is at the front of out, with room behind it; the table goes with it, and so do the copy's counts. */
+    if (!refused) refused = journal_count_records(out, ROOM, counts, &answer);
+    if (!refused) refused = sell(out, 2, 150);
+    if (!refused) printf("posted on, item 0 is %ld\n", (long)table[0]);
+    if (refused == JOURNAL_REASON_LOANS) printf("refused: loans\n"); /* answer is not written */
+    else if (refused) printf("refused: %s, place %lu\n", journal_refusal_word(refused), (unsigned long)answer);
     return (int)refused;
 }

@@ -30,6 +30,8 @@ static void call_append(void) {
     result = journal_append(journal, room, table, items, counts, kind, transaction, item, after, &answer);
 }
 
+static void call_count(void) { result = journal_count_records(journal, room, counts, &answer); }
+
 static void call_check(void) { result = journal_check(journal, room, table, items, &answer); }
 
 static void call_chain(void) { result = journal_chain(journal, room, transaction, lsns, slots, &answer); }
@@ -47,10 +49,10 @@ struct call {
 
 static struct call calls[] = {
     {"start", call_start, JOURNAL_STACK_START, 0}, {"append", call_append, JOURNAL_STACK_APPEND, 0},
-    {"check", call_check, JOURNAL_STACK_CHECK, 0}, {"chain", call_chain, JOURNAL_STACK_CHAIN, 0},
-    {"undo", call_undo, JOURNAL_STACK_UNDO, 0},
+    {"count_records", call_count, JOURNAL_STACK_COUNT_RECORDS, 0}, {"check", call_check, JOURNAL_STACK_CHECK, 0},
+    {"chain", call_chain, JOURNAL_STACK_CHAIN, 0}, {"undo", call_undo, JOURNAL_STACK_UNDO, 0},
 };
-enum { START, APPEND, CHECK, CHAIN, UNDO, CALLS };
+enum { START, APPEND, COUNT, CHECK, CHAIN, UNDO, CALLS };
 
 static void fail(const char *what) {
     fprintf(stderr, "stack: %s\n", what);
@@ -101,13 +103,15 @@ static void append(uint8_t the_kind, uint32_t of_transaction, uint32_t the_item,
     run(APPEND, 0);
 }
 
-/* A finished journal that is full: a refused append, check, chain; all four calls with the last record damaged; then undo. */
+/* A finished journal that is full: a refused append, check, chain; all calls with the last record damaged, which count does not see;
+   then undo. */
 static void full_day(void) {
     size_t last = JOURNAL_MAX_BYTES - JOURNAL_RECORD_BYTES;
     if (counts[0] + counts[1] + counts[2] + counts[3] != JOURNAL_MAX_RECORDS) fail("the day is not full");
     transaction = 1;
     kind = JOURNAL_KIND_READ;
     run(APPEND, JOURNAL_REASON_CLOSED);
+    run(COUNT, 0);
     run(CHECK, 0);
     slots = JOURNAL_MAX_RECORDS;
     run(CHAIN, 0);
@@ -115,6 +119,7 @@ static void full_day(void) {
     run(CHAIN, JOURNAL_REASON_CAPACITY);
     journal[last + 1] = 1;
     run(APPEND, JOURNAL_REASON_MALFORMED);
+    run(COUNT, 0);
     run(CHECK, JOURNAL_REASON_MALFORMED);
     run(CHAIN, JOURNAL_REASON_MALFORMED);
     run(UNDO, JOURNAL_REASON_MALFORMED);
@@ -158,6 +163,7 @@ int main(void) {
     after = 0;
     listed = 1;
     run(APPEND, JOURNAL_REASON_CAPACITY);
+    run(COUNT, 0);
     run(CHECK, 0);
     run(CHAIN, JOURNAL_REASON_UNKNOWN);
     run(UNDO, JOURNAL_REASON_UNKNOWN);
@@ -165,7 +171,7 @@ int main(void) {
     for (i = START; i < CALLS; i++) run((int)i, JOURNAL_REASON_TRUNCATED);
 
     for (i = START; i < CALLS; i++) {
-        printf("%-6s %5lu bytes of stack, at most %lu\n", calls[i].name, (unsigned long)calls[i].most, (unsigned long)calls[i].limit);
+        printf("%-13s %5lu bytes of stack, at most %lu\n", calls[i].name, (unsigned long)calls[i].most, (unsigned long)calls[i].limit);
         if (calls[i].most > calls[i].limit) failed = 1;
     }
     return failed;

@@ -8,12 +8,14 @@
 //! The highest day is the one that holds. The next is written into a folder that is no day, its files and
 //! the folder are flushed to the disk, one rename gives it a name that is not yet used, and the depot's
 //! folder is flushed. So wherever the program or the machine stops, the highest day is the old or the new
-//! one, whole, and no earlier one is touched. A folder part-N that is left then can be removed.
+//! one, whole, and no earlier one is touched. A folder part-N that is left then is removed by the next
+//! call. One process at a time writes to a depot's folder.
 
 use journal::{check, status, undo, Refusal, Transaction, Undone, STATUS_BYTES};
+use std::ffi::OsStr;
 use std::fs::{self, File, OpenOptions};
 use std::io::{self, Write};
-use std::path::Path;
+use std::path::{Path, PathBuf};
 use std::process::ExitCode;
 use std::{env, process};
 
@@ -29,20 +31,18 @@ fn about(path: &Path) -> impl FnOnce(io::Error) -> io::Error + '_ {
     move |error| io::Error::new(error.kind(), format!("{}: {error}", path.display()))
 }
 
+/// The number behind "day-" or "part-" if the name is such a one: "day-7", not "day-07".
+fn number_in(name: &OsStr, front: &str) -> Option<u32> {
+    let digits = name.to_str()?.strip_prefix(front)?;
+    let number: u32 = digits.parse().ok()?;
+    (number > 0 && number.to_string() == digits).then_some(number)
+}
+
 /// The number of the highest day. A folder that is being written has another name.
 fn highest(depot: &Path) -> io::Result<u32> {
     let mut highest = None;
     for entry in fs::read_dir(depot).map_err(about(depot))? {
-        let name = entry?.file_name();
-        let number = name.to_str().and_then(|name| name.strip_prefix("day-"));
-        // "day-7", not "day-07".
-        let number = number.and_then(|digits| {
-            digits
-                .parse()
-                .ok()
-                .filter(|n: &u32| n.to_string() == digits)
-        });
-        highest = highest.max(number);
+        highest = highest.max(number_in(&entry?.file_name(), "day-"));
     }
     let none = || about(depot)(io::Error::new(io::ErrorKind::NotFound, "no day-1"));
     highest.ok_or_else(none)
@@ -109,11 +109,28 @@ fn flush(folder: &Path) -> io::Result<()> {
     File::open(folder)?.sync_all()
 }
 
+/// A new folder that is no day. Those that a stop has left are removed first. Each is renamed before its
+/// files go: a program that is still at work on it fails then, and keeps no day with files missing.
+fn make_part(depot: &Path) -> io::Result<PathBuf> {
+    let part = depot.join(format!("part-{}", process::id()));
+    if part.try_exists()? {
+        fs::remove_dir_all(&part)?;
+    }
+    for entry in fs::read_dir(depot)? {
+        let name = entry?.file_name();
+        if number_in(&name, "part-").is_some() {
+            fs::rename(depot.join(name), &part)?;
+            fs::remove_dir_all(&part)?;
+        }
+    }
+    fs::create_dir(&part)?;
+    Ok(part)
+}
+
 /// Writes a day into a new folder, on the disk when this returns.
 fn fill(folder: &Path, day: &Day) -> io::Result<()> {
     let table = day.table.iter().flat_map(|amount| amount.to_le_bytes());
     let taken = day.taken.iter().flat_map(|sale| sale.0.to_le_bytes());
-    fs::create_dir(folder)?;
     write(&folder.join("journal.bin"), &day.journal)?;
     write(&folder.join("table.bin"), &table.collect::<Vec<u8>>())?;
     write(&folder.join("taken.bin"), &taken.collect::<Vec<u8>>())?;
@@ -122,12 +139,8 @@ fn fill(folder: &Path, day: &Day) -> io::Result<()> {
 
 /// Keeps a day under this number, which no day has yet.
 fn store(depot: &Path, number: u32, day: &Day) -> io::Result<()> {
-    let part = depot.join(format!("part-{}", process::id()));
+    let part = make_part(depot).map_err(about(depot))?;
     let folder = depot.join(format!("day-{number}"));
-    if part.try_exists()? {
-        // Left by a process of this number that was stopped.
-        fs::remove_dir_all(&part)?;
-    }
     // Where another program was faster, the name is a folder that is not empty, and rename fails.
     let kept = fill(&part, day).and_then(|()| fs::rename(&part, &folder));
     if let Err(error) = kept {

@@ -1,5 +1,5 @@
-//! The depot journal (document 01): start, post, check, slip and take-back, over the proved static
-//! library `capi`.
+//! The depot journal (document 01): start, post, check, slip and take-back, and the count of a stored
+//! journal, over the proved static library `capi`.
 //!
 //! A *transaction* is document 01's "sale", an *LSN* its "record number", *abort* its "rollback" and
 //! *active* its "open"; [`append`] is "post", [`chain`](chain()) is "slip", [`undo`] is "take-back".
@@ -42,6 +42,10 @@
 //! assert_eq!(marks[1..=2], [status::UNDONE, status::SURVIVING]);
 //! assert_eq!(table, [500, 7]);
 //! assert_eq!(check(&out[..totals.bytes], &table)?, 0);
+//!
+//! // Posting goes on in the copy, which has room behind it, with the copy's counts.
+//! let mut counts = Counts::of(&out)?;
+//! append(&mut out, &mut table, &mut counts, kind::READ, Transaction(3), Item(0), 0)?;
 //! # Ok(())
 //! # }
 //! ```
@@ -56,6 +60,11 @@ mod refusal;
 pub use numbers::{Item, Lsn, Transaction};
 pub use record::{records, Head, Record};
 pub use refusal::{Place, Reason, Refusal};
+
+/// The number of the C interface that this crate is for; it rises when a signature changes. Every
+/// function here calls one of the archive that has this number in its name, so an archive of another
+/// number does not link.
+pub const INTERFACE: u32 = 1;
 
 /// Bytes of the head and of each record.
 pub const RECORD_BYTES: usize = 20;
@@ -107,7 +116,8 @@ pub const fn journal_bytes(records: usize) -> usize {
     RECORD_BYTES * (records + 1)
 }
 
-/// How many records of each kind a journal has ("tally"). All are 0 for a journal just started.
+/// How many records of each kind a journal has ("tally"). All are 0 for a journal just started;
+/// [`Counts::of`] gives those of a stored journal or a copy.
 #[derive(Clone, Copy, Debug, Default, PartialEq, Eq)]
 #[repr(C)]
 pub struct Counts {
@@ -119,6 +129,42 @@ pub struct Counts {
     pub commits: u32,
     /// Aborts ("rollbacks").
     pub aborts: u32,
+}
+
+impl Counts {
+    /// The counts of a stored journal, or of the copy that [`undo`] wrote: with them [`append`] goes on.
+    /// No record is checked, and one of another kind is in none of the counts; [`append`] checks all of
+    /// them.
+    ///
+    /// # Errors
+    ///
+    /// In order: 1 (under 20 bytes), 2, 1 (whole length). Place 0.
+    ///
+    /// ```
+    /// use journal::{append, kind, Counts, Item, Transaction};
+    ///
+    /// let (mut journal, mut table, mut counts) = ([0; 60], [500], Counts::default());
+    /// journal::start(&mut journal, 1)?;
+    /// append(&mut journal, &mut table, &mut counts, kind::READ, Transaction(1), Item(0), 0)?;
+    /// assert_eq!(Counts::of(&journal)?, counts);
+    /// assert_eq!(Counts::of(&journal[..39]).unwrap_err().to_string(), "torn");
+    /// # Ok::<(), journal::Refusal>(())
+    /// ```
+    pub fn of(journal: &[u8]) -> Result<Counts, Refusal> {
+        let mut counts = Counts::default();
+        // SAFETY: the journal is borrowed through the call and only read, `counts` and `answer` are
+        // borrowed alone; the length is the slice's.
+        ask(|answer| unsafe {
+            raw::journal_count_records(journal.as_ptr(), journal.len(), counts.numbers(), answer)
+        })?;
+        Ok(counts)
+    }
+
+    /// The four numbers, in the order of the library.
+    fn numbers(&mut self) -> *mut u32 {
+        let counts: *mut Counts = self;
+        counts.cast()
+    }
 }
 
 /// What an accepted [`undo`] answers.
@@ -135,11 +181,16 @@ pub struct Undone {
     pub bytes: usize,
 }
 
-/// The answer of a call that returned this number.
-fn answered(number: u32, answer: u64) -> Result<u64, Refusal> {
-    match number {
+/// Makes a call of the library, which is lent a place for its answer. The library is of this interface,
+/// or it does not link.
+fn ask(call: impl FnOnce(&mut u64) -> u32) -> Result<u64, Refusal> {
+    // SAFETY: the function takes and touches nothing.
+    let interface = unsafe { raw::journal_interface_1() };
+    assert_eq!(interface, INTERFACE);
+    let mut answer = 0;
+    match call(&mut answer) {
         0 => Ok(answer),
-        _ => Err(Refusal::new(number, answer)),
+        number => Err(Refusal::new(number, answer)),
     }
 }
 
@@ -158,11 +209,11 @@ fn answered(number: u32, answer: u64) -> Result<u64, Refusal> {
 /// # Ok::<(), journal::Refusal>(())
 /// ```
 pub fn start(journal: &mut [u8], items: u32) -> Result<(), Refusal> {
-    let mut answer = 0;
     // SAFETY: `journal` and `answer` are borrowed alone through the call; the length is the slice's.
-    let number =
-        unsafe { raw::journal_start(journal.as_mut_ptr(), journal.len(), items, &mut answer) };
-    answered(number, answer).map(|_| ())
+    ask(|answer| unsafe {
+        raw::journal_start(journal.as_mut_ptr(), journal.len(), items, answer)
+    })?;
+    Ok(())
 }
 
 /// Adds one record ("post"). A write's before image is the table's amount.
@@ -204,25 +255,22 @@ pub fn append(
     item: Item,
     after: i32,
 ) -> Result<(), Refusal> {
-    let mut answer = 0;
-    let counts: *mut Counts = counts;
-    // SAFETY: all four loans are borrowed alone through the call; each length is its slice's, and
-    // `Counts` is four u32 in the order of the library.
-    let number = unsafe {
+    // SAFETY: all four loans are borrowed alone through the call; each length is its slice's.
+    ask(|answer| unsafe {
         raw::journal_append(
             journal.as_mut_ptr(),
             journal.len(),
             table.as_mut_ptr(),
             table.len(),
-            counts.cast(),
+            counts.numbers(),
             kind,
             transaction.0,
             item.0,
             after,
-            &mut answer,
+            answer,
         )
-    };
-    answered(number, answer).map(|_| ())
+    })?;
+    Ok(())
 }
 
 /// Checks a journal with its table; answers how many transactions are active.
@@ -237,20 +285,19 @@ pub fn append(
 /// assert_eq!((torn.number, torn.place), (1, journal::Place::None));
 /// ```
 pub fn check(journal: &[u8], table: &[i32]) -> Result<u32, Refusal> {
-    let mut answer = 0;
     // SAFETY: journal and table are borrowed through the call and only read, `answer` is borrowed alone;
     // each length is its slice's.
-    let number = unsafe {
+    let active = ask(|answer| unsafe {
         raw::journal_check(
             journal.as_ptr(),
             journal.len(),
             table.as_ptr(),
             table.len(),
-            &mut answer,
+            answer,
         )
-    };
+    })?;
     // At most 1,024.
-    answered(number, answer).map(|active| active as u32)
+    Ok(active as u32)
 }
 
 /// Writes the record numbers of one transaction, in order, to the front of `lsns` ("slip"); answers
@@ -276,20 +323,19 @@ pub fn check(journal: &[u8], table: &[i32]) -> Result<u32, Refusal> {
 /// # Ok::<(), journal::Refusal>(())
 /// ```
 pub fn chain(journal: &[u8], transaction: Transaction, lsns: &mut [Lsn]) -> Result<usize, Refusal> {
-    let mut answer = 0;
     // SAFETY: the journal is borrowed through the call and only read, `lsns` and `answer` are borrowed
     // alone; each length is its slice's, and an `Lsn` is laid out as a u32.
-    let number = unsafe {
+    let visited = ask(|answer| unsafe {
         raw::journal_chain(
             journal.as_ptr(),
             journal.len(),
             transaction.0,
             lsns.as_mut_ptr().cast(),
             lsns.len(),
-            &mut answer,
+            answer,
         )
-    };
-    match answered(number, answer) {
+    });
+    match visited {
         // At most the length of `lsns`.
         Ok(visited) => Ok(visited as usize),
         // No list is lent here, so 12 has no position.
@@ -307,7 +353,8 @@ pub fn chain(journal: &[u8], transaction: Transaction, lsns: &mut [Lsn]) -> Resu
 /// Where accepted, `table` has the amounts that the surviving transactions leave, `status` has a byte
 /// of [`status`](mod@status) per transaction number, and the front of `out` is the copy: the journal
 /// of the surviving transactions. The rest of `out` is not written. `bad` may be empty, and may repeat
-/// a number.
+/// a number. Copy `table` first if you may have to go back: after the call it belongs to the copy and
+/// not to `journal`. An `out` as long as `journal` is always long enough.
 ///
 /// # Errors
 ///
@@ -331,10 +378,10 @@ pub fn undo(
     status: &mut [u8],
     out: &mut [u8],
 ) -> Result<Undone, Refusal> {
-    let (mut surviving, mut undone, mut aborted, mut answer) = (0, 0, 0, 0);
+    let (mut surviving, mut undone, mut aborted) = (0, 0, 0);
     // SAFETY: journal and list are borrowed through the call and only read, all else is borrowed alone;
     // each length is its slice's, and a `Transaction` is laid out as a u16.
-    let number = unsafe {
+    let bytes = ask(|answer| unsafe {
         raw::journal_undo(
             journal.as_ptr(),
             journal.len(),
@@ -349,14 +396,14 @@ pub fn undo(
             &mut surviving,
             &mut undone,
             &mut aborted,
-            &mut answer,
+            answer,
         )
-    };
-    // The bytes are at most the length of `out`.
-    answered(number, answer).map(|bytes| Undone {
+    })?;
+    Ok(Undone {
         surviving,
         undone,
         aborted,
+        // At most the length of `out`.
         bytes: bytes as usize,
     })
 }

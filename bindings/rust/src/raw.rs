@@ -12,6 +12,14 @@
 //! empty slice.
 
 extern "C" {
+    /// The number of the archive's interface, [`INTERFACE`](crate::INTERFACE). An archive of another one
+    /// has no function of this name.
+    ///
+    /// # Safety
+    ///
+    /// Nothing is asked: it takes and touches nothing.
+    pub fn journal_interface_1() -> u32;
+
     /// Starts a journal; answers 0.
     ///
     /// # Safety
@@ -39,6 +47,19 @@ extern "C" {
         transaction: u16,
         item: u32,
         after: i32,
+        answer: *mut u64,
+    ) -> u32;
+
+    /// Counts the records of a stored journal by kind; answers 0. The four counts are written only where
+    /// the call is accepted.
+    ///
+    /// # Safety
+    ///
+    /// See the [module](self).
+    pub fn journal_count_records(
+        journal: *const u8,
+        journal_length: usize,
+        counts: *mut u32,
         answer: *mut u64,
     ) -> u32;
 

@@ -169,6 +169,46 @@ fn a_refusal_writes_nothing() {
     assert!(undone(&[1], 80).0.is_ok());
 }
 
+/// Sale 4 takes 100 pence from item 0, on from what the take-back of sale 1 left.
+#[test]
+fn posting_goes_on_after_a_take_back() {
+    let (answer, mut table, _, mut out) = undone(&[1], 240);
+    let mut counts = Counts::of(&out).unwrap();
+    let left = Counts {
+        reads: 1,
+        writes: 1,
+        commits: 1,
+        aborts: 0,
+    };
+    assert_eq!(counts, left);
+    assert_eq!(Counts::of(&out[..answer.unwrap().bytes]), Ok(left));
+    for (kind, after) in [(kind::READ, 0), (kind::WRITE, 400), (kind::COMMIT, 0)] {
+        post(&mut out, &mut table, &mut counts, kind, 4, 0, after).unwrap();
+    }
+    assert_eq!(table, [400, 0, 1180]);
+    assert_eq!(Counts::of(&out), Ok(counts));
+    assert_eq!(check(&out, &table), Ok(0));
+}
+
+#[test]
+fn only_head_and_length_are_asked_before_counting() {
+    let mut journal = example();
+    journal[41] = 1;
+    journal[220] = 9;
+    let expected = Counts {
+        reads: 4,
+        writes: 4,
+        commits: 2,
+        aborts: 0,
+    };
+    assert_eq!(Counts::of(&journal), Ok(expected));
+    for (length, number) in [(0, 1), (19, 1), (239, 1)] {
+        assert_eq!(Counts::of(&journal[..length]), Err(Refusal::new(number, 0)));
+    }
+    journal[0] = 1;
+    assert_eq!(Counts::of(&journal[..239]), Err(Refusal::new(2, 0)));
+}
+
 #[test]
 fn a_refused_append_keeps_the_counts() {
     let (mut journal, mut table) = ([0; 40], [500]);

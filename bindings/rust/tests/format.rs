@@ -53,49 +53,83 @@ fn each_refusal_has_its_row() {
         let (number, word) = (reason.number(), reason.word());
         let row = line_of(&text, &format!("| {number} | {word} | "));
         let cells: Vec<&str> = row.trim_end_matches(" |").split(" | ").collect();
-        let [_, place, in_c, in_rust] = cells[..] else {
+        let [_, place, in_c, in_rust, variant] = cells[..] else {
             panic!("{row}");
         };
         let has = match Refusal::new(number, 0).place {
-            Place::None => "0",
-            Place::Record(_) => "record",
-            Place::Item(_) => "lowest such item",
-            Place::Transaction(_) => "lowest such sale",
-            _ => "lowest position in the list, from 0; in slip 0",
+            Place::None => ("0", "None"),
+            Place::Record(_) => ("record", "Record"),
+            Place::Item(_) => ("lowest such item", "Item"),
+            Place::Transaction(_) => ("lowest such sale", "Transaction"),
+            _ => (
+                "lowest position in the list, from 0; in slip 0",
+                "Position; in slip None",
+            ),
         };
-        assert_eq!(place, has);
+        assert_eq!((place, variant), has);
         assert_eq!(in_rust, format!("{reason:?}"));
         assert_eq!(in_c.replace('_', ""), in_rust.to_uppercase());
     }
 }
 
-/// The text without spaces and line ends, and without a comma before a closing bracket.
+/// The text without spaces, line ends, comments and attributes, and without a comma before a closing
+/// bracket.
 fn squeezed(text: &str) -> String {
-    let words: String = text.split_whitespace().collect();
-    words.replace(",)", ")")
+    let code = |line: &str| line.split("//").next().unwrap().to_string() + "\n";
+    let lines = text.lines().filter(|line| !line.trim().starts_with("#["));
+    let code: String = lines.map(code).collect();
+    let words: String = code.split_whitespace().collect();
+    words.replace(",)", ")").replace(",}", "}")
 }
 
-/// The declarations in the block of this language.
-fn declared(language: &str, ending: &str) -> Vec<String> {
+/// The declarations in a block of this language: the first has the calls, the second their types.
+fn declared(language: &str, block: usize, ending: &str) -> Vec<String> {
     let text = format();
-    let (_, block) = text.split_once(&format!("```{language}\n")).unwrap();
+    let opening = format!("```{language}\n");
+    let block = text.split(&opening).nth(1 + block).unwrap();
     let (block, _) = block.split_once("```").unwrap();
     let parts = block.split(ending).map(squeezed);
     parts.filter(|part| !part.is_empty()).collect()
 }
 
+fn header() -> String {
+    squeezed(&String::from_utf8(file("bindings/c/journal.h")).unwrap())
+}
+
+/// The binding's sources.
+fn binding() -> String {
+    let names = ["lib.rs", "numbers.rs", "record.rs", "refusal.rs"];
+    let sources = names.map(|name| file(&format!("bindings/rust/src/{name}")));
+    String::from_utf8(sources.concat()).unwrap()
+}
+
+#[test]
+fn the_types_are_those_of_header_and_binding() {
+    let header = header();
+    let in_c = declared("c", 1, "};");
+    assert_eq!(in_c.len(), 2);
+    for kind in in_c {
+        assert!(header.contains(&(kind.clone() + "};")), "{kind}");
+    }
+    let binding = squeezed(&binding().replace("pub ", ""));
+    let in_rust = declared("rust", 1, "\n");
+    assert_eq!(in_rust.len(), 9);
+    for kind in in_rust {
+        assert!(binding.contains(&kind), "not in the binding: {kind}");
+    }
+}
+
 #[test]
 fn the_calls_are_those_of_header_and_binding() {
-    let header = squeezed(&String::from_utf8(file("bindings/c/journal.h")).unwrap());
-    let in_c = declared("c", ";");
-    assert_eq!(in_c.len(), 6);
+    let header = header();
+    let in_c = declared("c", 0, ";");
+    assert_eq!(in_c.len(), 10);
     for call in in_c {
         assert!(header.contains(&call), "not in journal.h: {call}");
     }
-    let sources = ["lib.rs", "record.rs"].map(|name| file(&format!("bindings/rust/src/{name}")));
-    let binding = squeezed(&String::from_utf8(sources.concat()).unwrap());
-    let in_rust = declared("rust", "pub fn ");
-    assert_eq!(in_rust.len(), 6);
+    let binding = squeezed(&binding());
+    let in_rust = declared("rust", 0, "pub fn ");
+    assert_eq!(in_rust.len(), 9);
     for call in in_rust {
         assert!(
             binding.contains(&format!("pubfn{call}{{")),
@@ -107,6 +141,7 @@ fn the_calls_are_those_of_header_and_binding() {
 #[test]
 fn each_limit_has_its_row() {
     let text = format();
+    let (_, text) = text.split_once("\n## Limits\n").unwrap();
     let number = |cell: &str| cell.replace(',', "").parse::<usize>().unwrap();
     for (what, highest) in [
         ("records of a journal", journal::MAX_RECORDS),
@@ -114,8 +149,27 @@ fn each_limit_has_its_row() {
         ("items", journal::MAX_ITEMS),
         ("sale number", journal::MAX_TRANSACTION.into()),
     ] {
-        let row = line_of(&text, &format!("| {what} | "));
+        let row = line_of(text, &format!("| {what} | "));
         let (_, cell) = row.trim_end_matches(" |").split_once(" | ").unwrap();
         assert_eq!(number(cell), highest);
+    }
+}
+
+#[test]
+fn the_stack_of_each_call_is_the_headers() {
+    let (text, header) = (
+        format(),
+        String::from_utf8(file("bindings/c/journal.h")).unwrap(),
+    );
+    for (calls, names) in [
+        ("start, count", &["START", "COUNT_RECORDS"][..]),
+        ("post, check, slip", &["APPEND", "CHECK", "CHAIN"]),
+        ("take-back", &["UNDO"]),
+    ] {
+        let bytes = line_of(&text, &format!("| {calls} | ")).trim_end_matches(" |");
+        for name in names {
+            let line = line_of(&header, &format!("#define JOURNAL_STACK_{name} "));
+            assert_eq!(line, bytes.replace(',', ""));
+        }
     }
 }

@@ -101,6 +101,32 @@ fn the_header_has_each_limit_and_kind() {
     }
 }
 
+/// The number of the interface, in header, binding and archive.
+#[test]
+fn the_interface_has_one_number() {
+    let header = squeezed(&text("bindings/c/journal.h"));
+    let number = journal::INTERFACE;
+    let function = format!("journal_interface_{number}(void);");
+    for part in [
+        format!(" #define JOURNAL_INTERFACE {number} "),
+        format!(" uint32_t {function} "),
+    ] {
+        assert!(header.contains(&part), "not in journal.h: {part}");
+    }
+    // SAFETY: the function takes and touches nothing.
+    let archive = unsafe { journal::raw::journal_interface_1() };
+    assert_eq!(archive, number);
+}
+
+/// Each call of the library is one of `ask`, which calls the function of the interface's number.
+#[test]
+fn each_function_asks_for_the_interface() {
+    let binding = text("bindings/rust/src/lib.rs");
+    let calls = binding.matches("raw::journal_").count();
+    let asked = binding.matches("ask(|answer| ").count();
+    assert_eq!((calls, asked), (7, 6));
+}
+
 #[test]
 fn the_proved_code_has_the_same_reasons() {
     let code = text("crates/journal/src/lib.rt");

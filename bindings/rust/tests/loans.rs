@@ -60,6 +60,22 @@ fn start_and_append() {
 }
 
 #[test]
+fn count_records() {
+    let (journal, mut counts) = (sale(), [9; 4]);
+    let counted = counts.as_mut_ptr();
+    for (journal, length, expected) in [(null(), 0, 1), (journal.as_ptr(), 80, 0)] {
+        let mut answer = 9;
+        // SAFETY: every pointer is null with length 0, or of an array of that length that nothing else uses.
+        let number = unsafe { raw::journal_count_records(journal, length, counted, &mut answer) };
+        assert_eq!((number, answer), (expected, 0));
+        if expected == 1 {
+            assert_eq!(counts, [9; 4]);
+        }
+    }
+    assert_eq!(counts, [1, 1, 1, 0]);
+}
+
+#[test]
 fn check_and_chain() {
     let (journal, table) = (sale(), [320]);
     let mut lsns = [0; 3];

@@ -62,6 +62,11 @@ int unlinkat(int folder, const char *path, int flags) {
     return REAL(unlinkat)(folder, path, flags);
 }
 
+int unlink(const char *path) {
+    if (reached("unlink", last_part(path), "")) stop();
+    return REAL(unlink)(path);
+}
+
 int rmdir(const char *path) {
     if (reached("rmdir", last_part(path), "")) stop();
     return REAL(rmdir)(path);
@@ -82,14 +87,18 @@ ssize_t write(int fd, const void *bytes, size_t length) {
     return REAL(write)(fd, bytes, length);
 }
 
-int open64(const char *path, int flags, ...) {
-    mode_t mode = 0;
-    if (flags & O_CREAT) {
-        va_list rest;
-        va_start(rest, flags);
-        mode = (mode_t)va_arg(rest, int);
-        va_end(rest);
-        if (reached("create", last_part(path), "")) stop();
+/* Rust's open and C's. */
+#define OPEN(name)                                                                                                                 \
+    int name(const char *path, int flags, ...) {                                                                                   \
+        mode_t mode = 0;                                                                                                           \
+        if (flags & O_CREAT) {                                                                                                     \
+            va_list rest;                                                                                                          \
+            va_start(rest, flags);                                                                                                 \
+            mode = (mode_t)va_arg(rest, int);                                                                                      \
+            va_end(rest);                                                                                                          \
+            if (reached("create", last_part(path), "")) stop();                                                                    \
+        }                                                                                                                          \
+        return REAL(name)(path, flags, mode);                                                                                      \
     }
-    return REAL(open64)(path, flags, mode);
-}
+OPEN(open64)
+OPEN(open)

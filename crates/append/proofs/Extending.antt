@@ -77,12 +77,12 @@ module _ (b : List ℕ) (n : ℕ) (r : Record) (e : n ≡ count b) (room : 20 * 
   length-added = ap length added ∙ length-store (20 * (n + 1)) (bytesOf r) b (stored-fits (n + 1) r b room)
 
   module _ (last : ℕ) (q : last ≡ tagIn (latest (ofTx (r .transaction .0)) (history b n))) (h : last ≤ n) where
-    pub added-long : 20 * last + 20 ≤ length (putMid (20 * (n + 1)) (20 * (n + 1) + 20 - 20 * (n + 1)) b v)
+    pub added-long : 20 * (last + 1) ≤ length (putMid (20 * (n + 1)) (20 * (n + 1) + 20 - 20 * (n + 1)) b v)
     added-long = let l = length-added in omega arith
 
     module _ (c : List ℕ) (k : c ≡ link (n + 1) last (putMid (20 * (n + 1)) (20 * (n + 1) + 20 - 20 * (n + 1)) b v)) where
       pub length-linked : length c ≡ length b
-      length-linked = ap length k ∙ length-link (n + 1) last (putMid (20 * (n + 1)) (20 * (n + 1) + 20 - 20 * (n + 1)) b v) added-long ∙ length-added
+      length-linked = ap length k ∙ length-link (n + 1) last (putMid (20 * (n + 1)) (20 * (n + 1) + 20 - 20 * (n + 1)) b v) (omega (arith, added-long)) ∙ length-added
 
       pub linked-long : 4 + 4 ≤ length c
       linked-long = let l = length-linked in omega arith

@@ -11,12 +11,12 @@ use Rattle.lists.specs.Search.{orElse}
 use Rattle.format.specs.declared.Record.{Record}
 use Rattle.model.specs.History.{Amount}
 use Rattle.model.proofs.Extension.{matched-extended}
-use Rattle.journal.specs.Inputs.{lent}
+use Rattle.journal.specs.Inputs.{inputsOf}
 use Rattle.journal.specs.declared.Reason.{Reason}
 use Rattle.journal.specs.Reasons.{numberOf, placeOf}
 use Rattle.journal.specs.Journal.{count, items, txIn, opOf, history, whole, amountAt}
-use Rattle.journal.specs.Refusals.{Tally, malformed, mismatched, noRoom, wrongTally}
-use Rattle.journal.specs.Orders.{Refusal, accessOrder, ruleOrder, tallyOrder, newOrder, checkOrder, appendOrder, decide}
+use Rattle.journal.specs.Refusals.{RecordCounts, malformed, mismatched, noRoom, wrongCounts}
+use Rattle.journal.specs.Orders.{Refusal, accessOrder, ruleOrder, countsOrder, newOrder, checkOrder, appendOrder, decide}
 use Rattle.journal.specs.Calls.{Answer, refused, accepted, answered}
 use Rattle.journal.proofs.Clear.{decide-clear}
 use Rattle.journal.proofs.Checked.{clear-checks}
@@ -29,8 +29,8 @@ use Rattle.fields.specs.Answers.{Size, headerOf}
 use Rattle.rules.specs.declared.Verdict.{Verdict}
 use Rattle.rules.specs.declared.Verdict.the-variants as verdict
 use Rattle.rules.specs.Answers.{verdictOf}
-use Rattle.rules.specs.Arrays.{Ready, SightedTo, State}
-use Rattle.validate.proofs.Whole.{checked-ready, checked-sighted}
+use Rattle.rules.specs.Arrays.{Ready, NoBlindTo, State}
+use Rattle.validate.proofs.Whole.{checked-ready, checked-noBlind}
 use Rattle.append.specs.Entries.{FromTable, Arrays, entryOrder}
 
 -- a refusal, by number and place
@@ -82,17 +82,17 @@ module _ (b : List ℕ) (n : ℕ) (r : Record) (e : n ≡ count b) where
 
 -- ---- 15
 
-module _ (b : List ℕ) (c : Tally) (r : Record) (h : Bool) (g : h ≡ not (wrongTally b c)) where
-  entry-parts : decide (entryOrder b c r) ≡ orElse (cond (wrongTally b c) (at 15 0) none) (decide (newOrder b r))
-  unfolding entryOrder tallyOrder
-  entry-parts = decide-turn (tallyOrder b c) (newOrder b r ∷ []) ∙ rw (decide-try 15 0 (wrongTally b c), decide-one (newOrder b r))
+module _ (b : List ℕ) (c : RecordCounts) (r : Record) (h : Bool) (g : h ≡ not (wrongCounts b c)) where
+  entry-parts : decide (entryOrder b c r) ≡ orElse (cond (wrongCounts b c) (at 15 0) none) (decide (newOrder b r))
+  unfolding entryOrder countsOrder
+  entry-parts = decide-turn (countsOrder b c) (newOrder b r ∷ []) ∙ rw (decide-try 15 0 (wrongCounts b c), decide-one (newOrder b r))
 
   pub entry-counts : h ≡ false → refused 15 0 ≡ answered (decide (entryOrder b c r)) (count b)
-  entry-counts z = let a : wrongTally b c ≡ true = not-false _ (sym g ∙ z) in rw (entry-parts, a)
+  entry-counts z = let a : wrongCounts b c ≡ true = not-false _ (sym g ∙ z) in rw (entry-parts, a)
 
   module _ (z : h ≡ true) (v : Verdict) (y : verdictOf v ≡ decide (newOrder b r)) where
     decides : decide (entryOrder b c r) ≡ verdictOf v
-    decides = let a : wrongTally b c ≡ false = not-true _ (sym g ∙ z) in rw (entry-parts, a) (sym y)
+    decides = let a : wrongCounts b c ≡ false = not-true _ (sym g ∙ z) in rw (entry-parts, a) (sym y)
 
     pub entry-refused : (why : Reason) → v ≡ verdict.Refused why → refused (numberOf why) (placeOf why) ≡ answered (decide (entryOrder b c r)) (count b)
     entry-refused why e = rw (decides, e)
@@ -102,17 +102,17 @@ module _ (b : List ℕ) (c : Tally) (r : Record) (h : Bool) (g : h ≡ not (wron
 
 -- ---- 1 to 10: check
 
-module _ (b : List ℕ) (t : List Amount) (c : Tally) (r : Record) (h : Headed) (q : headerOf h ≡ answered (decide (checkOrder (lent b t))) (record { records = count b; items = items b })) where
-  append-parts : decide (appendOrder (lent b t) c r) ≡ orElse (decide (checkOrder (lent b t))) (decide (entryOrder b c r))
+module _ (b : List ℕ) (t : List Amount) (c : RecordCounts) (r : Record) (h : Headed) (q : headerOf h ≡ answered (decide (checkOrder (inputsOf b t))) (record { records = count b; items = items b })) where
+  append-parts : decide (appendOrder (inputsOf b t) c r) ≡ orElse (decide (checkOrder (inputsOf b t))) (decide (entryOrder b c r))
   unfolding appendOrder entryOrder
-  append-parts = decide-turn (checkOrder (lent b t)) (tallyOrder b c ∷ newOrder b r ∷ [])
+  append-parts = decide-turn (checkOrder (inputsOf b t)) (countsOrder b c ∷ newOrder b r ∷ [])
 
-  pub plan-refused : (why : Reason) → h ≡ headed.Refused why → refused (numberOf why) (placeOf why) ≡ answered (decide (appendOrder (lent b t) c r)) (count b)
-  plan-refused why e = let z = refused-only _ _ (decide (checkOrder (lent b t))) _ (sym (ap headerOf e) ∙ q) in rw (append-parts, z)
+  pub plan-refused : (why : Reason) → h ≡ headed.Refused why → refused (numberOf why) (placeOf why) ≡ answered (decide (appendOrder (inputsOf b t) c r)) (count b)
+  plan-refused why e = let z = refused-only _ _ (decide (checkOrder (inputsOf b t))) _ (sym (ap headerOf e) ∙ q) in rw (append-parts, z)
 
-  module _ (n m : ℕ) (e : h ≡ headed.Counts n m) where
-    sized : (decide (checkOrder (lent b t)) ≡ none) × (_≡_ {A = Size} (record { records = n; items = m }) (record { records = count b; items = items b }))
-    sized = accepted-only (decide (checkOrder (lent b t))) _ _ (sym (ap headerOf e) ∙ q)
+  module _ (n m : ℕ) (e : h ≡ headed.Size n m) where
+    sized : (decide (checkOrder (inputsOf b t)) ≡ none) × (_≡_ {A = Size} (record { records = n; items = m }) (record { records = count b; items = items b }))
+    sized = accepted-only (decide (checkOrder (inputsOf b t))) _ _ (sym (ap headerOf e) ∙ q)
 
     pub plan-counted : n ≡ count b
     plan-counted = ap (λ s. s .records) (sized .1)
@@ -123,19 +123,19 @@ module _ (b : List ℕ) (t : List Amount) (c : Tally) (r : Record) (h : Headed) 
     pub plan-ready : Ready b n
     plan-ready = rw plan-counted (checked-ready b t (sized .0))
 
-    pub plan-sighted : SightedTo b n
-    plan-sighted = rw plan-counted (checked-sighted b t (sized .0))
+    pub plan-noBlind : NoBlindTo b n
+    plan-noBlind = rw plan-counted (checked-noBlind b t (sized .0))
 
-    pub plan-arrays : (ends firsts writes bases reads links : List ℕ) → (decide (checkOrder (lent b t)) ≡ none → State b (count b) ends firsts writes bases reads links) → Arrays b n ends writes reads links
+    pub plan-arrays : (ends firsts writes bases reads links : List ℕ) → (decide (checkOrder (inputsOf b t)) ≡ none → State b (count b) ends firsts writes bases reads links) → Arrays b n ends writes reads links
     plan-arrays ends firsts writes bases reads links s =
         let p = s (sized .0) in
-        rw plan-counted (record { ended = p .ended; written = p .written; sighted = p .sighted; linked = p .linked })
+        rw plan-counted (record { ended = p .ended; written = p .written; lastRead = p .lastRead; linked = p .linked })
 
     -- 9 does not arise for the new record
     pub plan-matched : FromTable t r → malformed (items b) r ≡ false → mismatched (whole b) (opOf (suc (count b)) r) ≡ false
     unfolding mismatched
     plan-matched f m =
-        let k = clear-checks b t (decide-clear (checkOrder (lent b t)) (sized .0)) in
+        let k = clear-checks b t (decide-clear (checkOrder (inputsOf b t)) (sized .0)) in
         formed-cases (items b) r m
         (λ a _ _. rw (opOf-read (suc (count b)) r a))
         (λ a x.
@@ -144,5 +144,5 @@ module _ (b : List ℕ) (t : List Amount) (c : Tally) (r : Record) (h : Headed) 
         (λ a _. rw (opOf-commit (suc (count b)) r a))
         (λ a _. rw (opOf-abort (suc (count b)) r a))
 
-    pub plan-entry : (p : Answer ℕ) → p ≡ answered (decide (entryOrder b c r)) (count b) → p ≡ answered (decide (appendOrder (lent b t) c r)) (count b)
+    pub plan-entry : (p : Answer ℕ) → p ≡ answered (decide (entryOrder b c r)) (count b) → p ≡ answered (decide (appendOrder (inputsOf b t) c r)) (count b)
     plan-entry p y = rw (append-parts, sized .0) y

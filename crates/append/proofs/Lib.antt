@@ -1,5 +1,5 @@
 pub mod Tables
-pub mod KindCounts
+pub mod Agreeing
 pub mod Extending
 pub mod Judging
 pub mod Results

@@ -15,24 +15,25 @@ use mir.ValLaws.{toZ-ofZ}
 use borrow.Author.Tests.{eq-eqb, ne-eqb}
 use Rattle.format.specs.declared.Record.{Record}
 use Rattle.model.specs.History.{Amount}
-use Rattle.journal.specs.Inputs.{lent}
+use Rattle.journal.specs.Inputs.{inputsOf}
 use Rattle.journal.specs.declared.Reason.{Reason}
 use Rattle.journal.specs.Reasons.{numberOf, placeOf}
 use Rattle.journal.specs.Journal.{count, opOf, history, whole, amountAt}
 use Rattle.journal.specs.Orders.{decide, appendOrder}
-use Rattle.journal.specs.Calls.{answered, newRecord, extended, tableAfter, raised, append}
+use Rattle.journal.specs.Calls.{answered, newRecord, extended, appliedTable, raised, append}
 use Rattle.journal.proofs.Clear.{decide-clear, clear-decide}
 use Rattle.journal.proofs.Checked.{checks-clear}
 use Rattle.journal.proofs.Unrefused.{room, count-bound, table-length}
 use Rattle.journal.proofs.Appending.{clear-appended}
 use Rattle.validate.proofs.Whole.{checked-ready}
-use Rattle.append.specs.declared.Counts.{Counts}
+use Rattle.counts.specs.declared.Counts.{Counts}
 use Rattle.append.specs.declared.Plan.{Plan}
 use Rattle.append.specs.declared.Plan.the-variants as plan
 use Rattle.append.specs.declared.Outcome.the-variants as outcome
-use Rattle.append.specs.Answers.{tallyOf, planOf, Appends}
+use Rattle.counts.specs.Answers.{recordCountsOf}
+use Rattle.append.specs.Answers.{planOf, Appends}
 use Rattle.append.specs.Entries.{FromTable, Admitted}
-use Rattle.append.proofs.KindCounts.{agreed-few}
+use Rattle.append.proofs.Agreeing.{agreed-few}
 use Rattle.journal.proofs.Answered.{accepted-only, refused-only}
 
 -- ---- the new record
@@ -70,25 +71,25 @@ from-table t kind s x a r e = rw e (λ h. rw (eq-eqb kind 2 h))
 
 -- ---- refused, or done
 
-pub never : {A : Type 0} (why : Reason) (n : ℕ) → plan.Refused why ≡ plan.Enter n → A
-never why n e = let z : _≡_ {A = ℕ} 0 1 = cc in absurd (omega arith)
+pub refused-not-enter : {A : Type 0} (why : Reason) (n : ℕ) → plan.Refused why ≡ plan.Enter n → A
+refused-not-enter why n e = let z : _≡_ {A = ℕ} 0 1 = cc in absurd (omega arith)
 
 module _ (b : List ℕ) (t : List Amount) (kind s x : ℕ) (a : Amount) (c : Counts) (r : Record) (e : r ≡ newRecord t kind s x a)
-    (p : Plan) (q : planOf p ≡ answered (decide (appendOrder (lent b t) (tallyOf c) r)) (count b)) where
-  pub append-refused : (why : Reason) → p ≡ plan.Refused why → Appends c (lent b t) kind s x a (outcome.Refused why) c b t
+    (p : Plan) (q : planOf p ≡ answered (decide (appendOrder (inputsOf b t) (recordCountsOf c) r)) (count b)) where
+  pub append-refused : (why : Reason) → p ≡ plan.Refused why → Appends c (inputsOf b t) kind s x a (outcome.Refused why) c b t
   unfolding append
   append-refused why y =
-      let z = refused-only _ _ (decide (appendOrder (lent b t) (tallyOf c) r)) _ (sym (ap planOf y) ∙ q) in
-      let d : decide (appendOrder (lent b t) (tallyOf c) (newRecord t kind s x a)) ≡ some (record { number = numberOf why; place = placeOf why }) = rw (← e) z in
+      let z = refused-only _ _ (decide (appendOrder (inputsOf b t) (recordCountsOf c) r)) _ (sym (ap planOf y) ∙ q) in
+      let d : decide (appendOrder (inputsOf b t) (recordCountsOf c) (newRecord t kind s x a)) ≡ some (record { number = numberOf why; place = placeOf why }) = rw (← e) z in
       record { answer = rw d; counts = rw d; journal = rw d; table = rw d }
 
   module _ (n : ℕ) (y : p ≡ plan.Enter n) where
-    passes : (decide (appendOrder (lent b t) (tallyOf c) r) ≡ none) × (n ≡ count b)
-    passes = accepted-only (decide (appendOrder (lent b t) (tallyOf c) r)) n (count b) (sym (ap planOf y) ∙ q)
+    passes : (decide (appendOrder (inputsOf b t) (recordCountsOf c) r) ≡ none) × (n ≡ count b)
+    passes = accepted-only (decide (appendOrder (inputsOf b t) (recordCountsOf c) r)) n (count b) (sym (ap planOf y) ∙ q)
 
     pub append-admitted : Admitted b t c n r
     append-admitted =
-        let (k, w, f) = clear-appended b t (tallyOf c) r (decide-clear _ (passes .0)) in
+        let (k, w, f) = clear-appended b t (recordCountsOf c) r (decide-clear _ (passes .0)) in
         let m = room b (f .room) in
         rw (passes .1)
         (record {
@@ -101,11 +102,11 @@ module _ (b : List ℕ) (t : List Amount) (kind s x : ℕ) (a : Amount) (c : Cou
           few = agreed-few b c (count-bound b (k .sound .head)) w;
         })
 
-    pub append-done : (d : Counts) (b' : List ℕ) (t' : List Amount) → tallyOf d ≡ raised (r .kind) (tallyOf c) → b' ≡ extended b r → t' ≡ tableAfter (history b n) (opOf (n + 1) r) t
-        → Appends c (lent b t) kind s x a outcome.Done d b' t'
+    pub append-done : (d : Counts) (b' : List ℕ) (t' : List Amount) → recordCountsOf d ≡ raised (r .kind) (recordCountsOf c) → b' ≡ extended b r → t' ≡ appliedTable (history b n) (opOf (n + 1) r) t
+        → Appends c (inputsOf b t) kind s x a outcome.Done d b' t'
     unfolding append whole
     append-done d b' t' u v w =
-        let z : decide (appendOrder (lent b t) (tallyOf c) (newRecord t kind s x a)) ≡ none = rw (← e) (passes .0) in
+        let z : decide (appendOrder (inputsOf b t) (recordCountsOf c) (newRecord t kind s x a)) ≡ none = rw (← e) (passes .0) in
         let i : suc (count b) ≡ n + 1 = omega (arith, passes .1) in
         record {
           answer = rw z;

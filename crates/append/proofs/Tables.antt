@@ -22,19 +22,19 @@ use Rattle.format.specs.Layout.{recordAt}
 use Rattle.model.specs.History.{Op, History, Amount, Tag, read, write, commit, abort, other, writeOf, beforeOf, beforeIn, applied}
 use Rattle.journal.specs.Journal.{items, txIn, opOf, history, amountAt}
 use Rattle.journal.specs.Refusals.{malformed}
-use Rattle.journal.specs.Calls.{tableAfter}
+use Rattle.journal.specs.Calls.{appliedTable}
 use Rattle.journal.proofs.Records.{history-zero, history-suc}
 use Rattle.journal.proofs.Unrefused.{formed-cases, opOf-read, opOf-write, opOf-commit, opOf-abort}
-use Rattle.journal.proofs.Appending.{length-tableAfter, amount-tableAfter}
+use Rattle.journal.proofs.Appending.{length-appliedTable, amount-appliedTable}
 use Rattle.rules.specs.Arrays.{Ready}
 use Rattle.rules.proofs.Found.{passed-right}
 use Rattle.append.specs.Entries.{restoredBy}
 
 -- a table from its amounts
-table-is : (p : History) (o : Op) (t l : List Amount) → length l ≡ length t → ((x : ℕ) → x < length t → amountAt l x ≡ applied o p x (amountAt t x)) → l ≡ tableAfter p o t
+table-is : (p : History) (o : Op) (t l : List Amount) → length l ≡ length t → ((x : ℕ) → x < length t → amountAt l x ≡ applied o p x (amountAt t x)) → l ≡ appliedTable p o t
 table-is p o t l e h =
-    ext-getD (pos 0) l (tableAfter p o t) (e ∙ sym (length-tableAfter p o t))
-    (λ x m. let n : x < length t = omega arith in h x n ∙ sym (amount-tableAfter p o t x n))
+    ext-getD (pos 0) l (appliedTable p o t) (e ∙ sym (length-appliedTable p o t))
+    (λ x m. let n : x < length t = omega arith in h x n ∙ sym (amount-appliedTable p o t x n))
 
 -- ---- one record
 
@@ -92,7 +92,7 @@ module _ (s : ℕ) (i : Tag) (r : Record) (t : List Amount) (k : r .kind ≡ 2 �
 pub record Undoing (b : List ℕ) (n s : ℕ) (t₀ : List Amount) (i : ℕ) (t : List Amount) : Type 0 where
   pub low : i ≤ n
   pub size : length t ≡ length t₀
-  pub same : tableAfter (history b i) (abort (n + 1) s) t ≡ tableAfter (history b n) (abort (n + 1) s) t₀
+  pub same : appliedTable (history b i) (abort (n + 1) s) t ≡ appliedTable (history b n) (abort (n + 1) s) t₀
 
 pub undoing-start : (b : List ℕ) (n s : ℕ) (t₀ : List Amount) → Undoing b n s t₀ n t₀
 undoing-start b n s t₀ = record { low = omega arith; size = refl; same = refl }
@@ -101,12 +101,12 @@ module _ (b : List ℕ) (n s : ℕ) (t₀ : List Amount) (i : ℕ) (t : List Amo
   pub undoing-same : length t ≡ length t₀
   undoing-same = u .size
 
-  pub undoing-end : i ≡ 0 → t ≡ tableAfter (history b n) (abort (n + 1) s) t₀
+  pub undoing-end : i ≡ 0 → t ≡ appliedTable (history b n) (abort (n + 1) s) t₀
   undoing-end z =
       table-is (history b i) (abort (n + 1) s) t t refl (λ x h. rw (z, history-zero b)) ∙ u .same
 
   module _ (r : Ready b n) (long : length t₀ ≡ items b) where
-    pub undoing-long : 20 * i + 20 ≤ length b
+    pub undoing-long : 20 * (i + 1) ≤ length b
     undoing-long = omega (arith, u .low, r .long)
 
     pub undoing-formed : (i ≡ 0 → ⊥) → malformed (length t) (recordAt b i) ≡ false
@@ -131,9 +131,9 @@ module _ (b : List ℕ) (n s : ℕ) (t₀ : List Amount) (i : ℕ) (t : List Amo
               low = omega (arith, u .low);
               size = l ∙ u .size;
               same =
-                  sym (table-is (history b i) (abort (n + 1) s) (restoredBy s q t) (tableAfter (history b (suc i)) (abort (n + 1) s) t)
-                  (length-tableAfter (history b (suc i)) (abort (n + 1) s) t ∙ sym l)
-                  (λ x h. amount-tableAfter (history b (suc i)) (abort (n + 1) s) t x (omega arith) ∙ rw (history-suc b i) (sym (at-item s (suc i) q t k x (history b i)))))
+                  sym (table-is (history b i) (abort (n + 1) s) (restoredBy s q t) (appliedTable (history b (suc i)) (abort (n + 1) s) t)
+                  (length-appliedTable (history b (suc i)) (abort (n + 1) s) t ∙ sym l)
+                  (λ x h. amount-appliedTable (history b (suc i)) (abort (n + 1) s) t x (omega arith) ∙ rw (history-suc b i) (sym (at-item s (suc i) q t k x (history b i)))))
                   ∙ u .same;
             })
 
@@ -144,7 +144,7 @@ module _ (b : List ℕ) (n : ℕ) (r : Record) (t t' : List Amount) where
   write-in l f e = formed-cases (items b) r f (λ _ h _. omega arith) (λ _ h. omega arith) (λ d _. absurd (omega arith)) (λ d _. absurd (omega arith))
 
   pub after-write : length t ≡ items b → malformed (items b) r ≡ false → r .kind ≡ 2 → SFits w32 (r .after) → t' ≡ set t (r .item .0) (toZ w32 (ofZ w32 (r .after)))
-      → t' ≡ tableAfter (history b n) (opOf (n + 1) r) t
+      → t' ≡ appliedTable (history b n) (opOf (n + 1) r) t
   after-write l f e fits q =
       rw (q, toZ-ofZ w32 (r .after) fits, opOf-write (n + 1) r e)
       (table-is (history b n) (write (n + 1) (txIn r) (r .item .0) (r .before) (r .after)) t (set t (r .item .0) (r .after)) (length-set t (r .item .0) (r .after))
@@ -153,10 +153,10 @@ module _ (b : List ℕ) (n : ℕ) (r : Record) (t t' : List Amount) where
       (λ y. rw (y, eqb-true x (r .item .0) y) (getD-set-same t (r .item .0) (r .after) (pos 0) (write-in l f e)))
       (λ y. rw y (getD-set-other t (r .item .0) x (r .after) (pos 0) (eqb-false x (r .item .0) y)))))
 
-  pub after-abort : r .kind ≡ 4 → t' ≡ tableAfter (history b n) (abort (n + 1) (r .transaction .0)) t → t' ≡ tableAfter (history b n) (opOf (n + 1) r) t
+  pub after-abort : r .kind ≡ 4 → t' ≡ appliedTable (history b n) (abort (n + 1) (r .transaction .0)) t → t' ≡ appliedTable (history b n) (opOf (n + 1) r) t
   after-abort e q = rw (opOf-abort (n + 1) r e) q
 
-  pub after-other : malformed (items b) r ≡ false → (r .kind ≡ 2 → ⊥) → (r .kind ≡ 4 → ⊥) → t ≡ tableAfter (history b n) (opOf (n + 1) r) t
+  pub after-other : malformed (items b) r ≡ false → (r .kind ≡ 2 → ⊥) → (r .kind ≡ 4 → ⊥) → t ≡ appliedTable (history b n) (opOf (n + 1) r) t
   after-other f w a =
       table-is (history b n) (opOf (n + 1) r) t t refl
       (λ x h.

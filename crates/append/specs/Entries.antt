@@ -7,13 +7,14 @@ use Prim.Native.Nat.{ℕ, _+_, _*_, _<_, _≤_}
 use lib.Dec.{eqb}
 use lib.ListN.{length, set}
 use Rattle.format.specs.declared.Record.{Record}
+use Rattle.format.specs.Limits.{recordBytes, journalBytes, maxRecords}
 use Rattle.model.specs.History.{Amount}
 use Rattle.journal.specs.Journal.{count, items, txIn, history, amountAt}
-use Rattle.journal.specs.Refusals.{Tally, malformed}
-use Rattle.journal.specs.Orders.{Order, inTurn, tallyOrder, newOrder}
+use Rattle.journal.specs.Refusals.{RecordCounts, malformed}
+use Rattle.journal.specs.Orders.{Order, inTurn, countsOrder, newOrder}
 use Rattle.rules.specs.Arrays.{Ready, Linked, endsOf, writesOf, readsOf}
-use Rattle.append.specs.declared.Counts.{Counts}
-use Rattle.append.specs.Answers.{Few}
+use Rattle.counts.specs.declared.Counts.{Counts}
+use Rattle.counts.specs.Answers.{Few}
 
 -- the table with the before image of record r, if it is a write of transaction s
 unfoldable pub restoredBy : ℕ → Record → List Amount → List Amount
@@ -24,15 +25,15 @@ abbrev pub FromTable : List Amount → Record → Type 0
 FromTable t r = r .kind ≡ 2 → r .before ≡ amountAt t (r .item .0)
 
 -- append after check: 15, then the new record
-unfoldable pub entryOrder : List ℕ → Tally → Record → Order
-entryOrder b c r = inTurn (tallyOrder b c ∷ newOrder b r ∷ [])
+unfoldable pub entryOrder : List ℕ → RecordCounts → Record → Order
+entryOrder b c r = inTurn (countsOrder b c ∷ newOrder b r ∷ [])
 
 -- ---- the working arrays after the first n records, as far as rules 6 to 8 ask
 
 pub record Arrays (b : List ℕ) (n : ℕ) (ends writes reads links : List ℕ) : Type 0 where
   pub ended : ends ≡ endsOf (history b n)
   pub written : writes ≡ writesOf (history b n)
-  pub sighted : reads ≡ readsOf (history b n)
+  pub lastRead : reads ≡ readsOf (history b n)
   pub linked : Linked b n links
 
 -- ---- a record that may follow
@@ -42,6 +43,6 @@ pub record Admitted (b : List ℕ) (t : List Amount) (c : Counts) (n : ℕ) (r :
   pub counted : n ≡ count b
   pub table : length t ≡ items b
   pub formed : malformed (items b) r ≡ false
-  pub small : n < 3200
-  pub room : 20 * (n + 1) + 20 ≤ length b
+  pub small : n < maxRecords
+  pub room : journalBytes n + recordBytes ≤ length b
   pub few : Few c

@@ -1,6 +1,7 @@
--- What the C interface hands over of an answer: the refusal's number, 0 if the call is accepted, and the place or the value answered.
+-- What the C interface hands over of an answer: the refusal's number, 0 if the call is accepted, and the place or the value
+-- answered.
 -- Assumes nothing.
-use Prim.Native.Nat.{ℕ}
+use Prim.Native.Nat.{ℕ, zero, suc}
 use Rattle.journal.specs.Calls.{Answer, refused, accepted}
 
 -- the result: the refusal's number, 0 if accepted
@@ -17,3 +18,8 @@ answerWith f (accepted a) = f a
 abbrev pub loanWith : {A B : Type 0} → (A → B) → B → Answer A → B
 loanWith f old (refused n p) = old
 loanWith f old (accepted a) = f a
+
+-- the answer read back from the result and from what `answer` got, of which f makes the value
+abbrev pub answerIn : {A : Type 0} → (ℕ → A) → ℕ → ℕ → Answer A
+answerIn f zero v = accepted (f v)
+answerIn f (suc n) v = refused (suc n) v

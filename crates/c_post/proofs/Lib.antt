@@ -1,1 +1,5 @@
+pub mod StartLaws
 pub mod AppendLaws
+pub mod CheckLaws
+pub mod ChainLaws
+pub mod CountLaws

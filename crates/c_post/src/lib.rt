@@ -1,13 +1,19 @@
-// Start, post, check and slip for C: the refusal's number as the result, 0 if the call is accepted; the place or the value in `answer`.
+// Start, post, check, slip and counting for C: the refusal's number as the result, 0 if the call is accepted; the place or the
+// value in `answer`.
 ghost use mathlib.Core.Path.{_≡_};
-ghost use Rattle.journal.specs.Inputs.{lent};
+ghost use Rattle.journal.specs.Inputs.{inputsOf};
 ghost use Rattle.journal.specs.Calls as calls;
-ghost use Rattle.c_answers.specs.Results.{resultOf, answerWith};
-ghost use Rattle.c_post.specs.Leaves.{tallyIn, AppendLeaves};
-use append::Counts;
+ghost use Rattle.certified.specs.Promises.{StartPromise, AppendPromise, CheckPromise, ChainPromise, CountPromise};
+ghost use Rattle.c_answers.specs.Results.{resultOf, answerWith, loanWith, answerIn};
+ghost use Rattle.c_post.specs.Leaves.{recordCountsIn, countList, AppendLeaves, startedIn, appendedIn, walkedIn, countedIn};
 use append::Outcome;
 use chain::Walk;
+use counts::Counted;
+use counts::Counts;
+use format::Key;
+use format::TransactionId;
 use init::Init;
+use journal::Reason;
 use validate::Checked;
 
 // Starts a journal of this many items.
@@ -15,8 +21,9 @@ pub fn start(journal: &mut [u8], items: u32, answer: &mut u64) -> u32
     ensures result { λ r. ⌜ r ≡ resultOf (calls.start (now (journal .entry)) items .answer) ⌝ }
     ensures answer { λ r. ⌜ now (answer .exit) ≡ answerWith (λ a. 0) (calls.start (now (journal .entry)) items .answer) ⌝ }
     ensures journal { λ r. ⌜ now (journal .exit) ≡ calls.start (now (journal .entry)) items .journal ⌝ }
+    ensures demands { λ r. ⌜ StartPromise (now (journal .entry)) items (startedIn r (now (answer .exit)) (now (journal .exit))) ⌝ }
 {
-    let started = init::start(journal, items);
+    let started = certified::start(journal, items);
     let Init::Refused(why) = started else {
         *answer = 0;
         return 0;
@@ -35,7 +42,13 @@ pub fn append(
     after: i32,
     answer: &mut u64,
 ) -> u32
-    ensures { λ r. ⌜ AppendLeaves (calls.append (lent (now (journal .entry)) (now (table .entry))) (tallyIn (now (counts .entry))) kind transaction item after) (now (counts .entry)) r (now (answer .exit)) (now (journal .exit)) (now (table .exit)) (now (counts .exit)) ⌝ }
+    ensures leaves { λ r. ⌜ AppendLeaves
+        (calls.append (inputsOf (now (journal .entry)) (now (table .entry)))
+        (recordCountsIn (now (counts .entry))) kind transaction item after) (now (counts .entry)) r (now (answer .exit))
+        (now (journal .exit)) (now (table .exit)) (now (counts .exit)) ⌝ }
+    ensures demands { λ r. ⌜ AppendPromise (inputsOf (now (journal .entry)) (now (table .entry)))
+        (recordCountsIn (now (counts .entry))) (record { kind = kind; tx = transaction; item = item; after = after })
+        (appendedIn r (now (answer .exit)) (now (journal .exit)) (now (table .exit)) (now (counts .exit))) ⌝ }
 {
     let given = Counts {
         reads: counts[0],
@@ -43,7 +56,15 @@ pub fn append(
         commits: counts[2],
         aborts: counts[3],
     };
-    let appended = append::append_counted(given, journal, table, kind, transaction, item, after);
+    let appended = certified::append(
+        given,
+        journal,
+        table,
+        kind,
+        TransactionId(transaction),
+        Key(item),
+        after,
+    );
     let outcome = appended.answer;
     let Outcome::Refused(why) = outcome else {
         let now = appended.counts;
@@ -56,13 +77,16 @@ pub fn append(
 
 // How many transactions are active in a journal that passes with its table.
 pub fn check(journal: &[u8], table: &[i32], answer: &mut u64) -> u32
-    ensures result { λ r. ⌜ r ≡ resultOf (calls.check (lent (now (journal .entry)) (now (table .entry)))) ⌝ }
-    ensures answer { λ r. ⌜ now (answer .exit) ≡ answerWith (λ n. n) (calls.check (lent (now (journal .entry)) (now (table .entry)))) ⌝ }
+    ensures result { λ r. ⌜ r ≡ resultOf (calls.check (inputsOf (now (journal .entry)) (now (table .entry)))) ⌝ }
+    ensures answer { λ r. ⌜ now (answer .exit)
+        ≡ answerWith (λ n. n) (calls.check (inputsOf (now (journal .entry)) (now (table .entry)))) ⌝ }
+    ensures demands { λ r. ⌜ CheckPromise (inputsOf (now (journal .entry)) (now (table .entry)))
+        (answerIn (λ n. n) r (now (answer .exit))) ⌝ }
 {
-    let checked = validate::check(journal, table);
+    let checked = certified::check(journal, table);
     let Checked::Active(active) = checked else {
         let Checked::Refused(why) = checked else {
-            return 0;
+            return c_answers::refuse(Reason::Truncated, answer);
         };
         return c_answers::refuse(why, answer);
     };
@@ -73,16 +97,40 @@ pub fn check(journal: &[u8], table: &[i32], answer: &mut u64) -> u32
 // Writes the record numbers of one transaction to the front of `lsns`.
 pub fn chain(journal: &[u8], transaction: u16, lsns: &mut [u32], answer: &mut u64) -> u32
     ensures result { λ r. ⌜ r ≡ resultOf (calls.chain (now (journal .entry)) transaction (now (lsns .entry)) .answer) ⌝ }
-    ensures answer { λ r. ⌜ now (answer .exit) ≡ answerWith (λ n. n) (calls.chain (now (journal .entry)) transaction (now (lsns .entry)) .answer) ⌝ }
+    ensures answer { λ r. ⌜ now (answer .exit)
+        ≡ answerWith (λ n. n) (calls.chain (now (journal .entry)) transaction (now (lsns .entry)) .answer) ⌝ }
     ensures lsns { λ r. ⌜ now (lsns .exit) ≡ calls.chain (now (journal .entry)) transaction (now (lsns .entry)) .lsns ⌝ }
+    ensures demands { λ r. ⌜ ChainPromise (now (journal .entry)) transaction (now (lsns .entry))
+        (walkedIn r (now (answer .exit)) (now (lsns .exit))) ⌝ }
 {
-    let walked = chain::chain(journal, transaction, lsns);
+    let walked = certified::chain(journal, TransactionId(transaction), lsns);
     let Walk::Visited(visited) = walked else {
         let Walk::Refused(why) = walked else {
-            return 0;
+            return c_answers::refuse(Reason::Truncated, answer);
         };
         return c_answers::refuse(why, answer);
     };
     *answer = visited as u64;
+    0
+}
+
+// The record counts of a journal or a copy, for posting to go on with: reads, writes, commits and aborts. They are written only
+// where the call is accepted.
+pub fn count_records(journal: &[u8], counts: &mut [u32; 4], answer: &mut u64) -> u32
+    ensures result { λ r. ⌜ r ≡ resultOf (calls.countRecords (now (journal .entry))) ⌝ }
+    ensures answer { λ r. ⌜ now (answer .exit) ≡ answerWith (λ c. 0) (calls.countRecords (now (journal .entry))) ⌝ }
+    ensures counts { λ r. ⌜ now (counts .exit)
+        ≡ loanWith countList (now (counts .entry)) (calls.countRecords (now (journal .entry))) ⌝ }
+    ensures demands { λ r. ⌜ CountPromise (now (journal .entry)) (countedIn r (now (answer .exit)) (now (counts .exit))) ⌝ }
+{
+    let counted = certified::count_records(journal);
+    let Counted::Counts(found) = counted else {
+        let Counted::Refused(why) = counted else {
+            return c_answers::refuse(Reason::Truncated, answer);
+        };
+        return c_answers::refuse(why, answer);
+    };
+    *counts = [found.reads, found.writes, found.commits, found.aborts];
+    *answer = 0;
     0
 }

@@ -21,7 +21,7 @@ use Rattle.journal.proofs.Checked.{Sound, decide-sound}
 use Rattle.journal.proofs.Records.{txOf-opOf, tagOf-opOf, length-history}
 use Rattle.journal.proofs.Unrefused.{chained-next, history-numbered}
 use Rattle.rules.proofs.Found.{Found, at, first-found}
-use Rattle.chain.specs.Visits.{numbersOf, Visits, Counts}
+use Rattle.chain.specs.Visits.{lsnsOf, Visits, VisitCount}
 use Rattle.chain.proofs.Steps.{walk-end, walk-step}
 
 -- ---- a filter of numbered operations
@@ -43,8 +43,8 @@ none-behind f t [] e = refl
 none-behind f t (r ∷ p) e = rw (or-false-left (f r) _ e) (none-behind f t p (or-false-right (f r) _ e))
 
 -- the first that passes, then those behind it
-numbers-first : (f : Op → Bool) (p : History) → Numbered p → any f p ≡ true → numbersOf (keep f p) ≡ tagIn (first f p) ∷ numbersOf (keep (behind f (tagIn (first f p))) p)
-unfolding numbersOf
+numbers-first : (f : Op → Bool) (p : History) → Numbered p → any f p ≡ true → lsnsOf (keep f p) ≡ tagIn (first f p) ∷ lsnsOf (keep (behind f (tagIn (first f p))) p)
+unfolding lsnsOf
 numbers-first f [] n e = clash e refl
 numbers-first f (r ∷ p) n e =
     byCases (any f p)
@@ -58,10 +58,10 @@ numbers-first f (r ∷ p) n e =
     let g : ltb (tagOf r) (tagOf r) ≡ false = le-ltb (tagOf r) (tagOf r) (omega arith) in
     rw (q, first-none f p i, g, keep-none f p i, none-behind f (tagOf r) p i))
 
-length-numbers : (p : History) → length (numbersOf p) ≡ length p
-unfolding numbersOf
+length-numbers : (p : History) → length (lsnsOf p) ≡ length p
+unfolding lsnsOf
 length-numbers [] = refl
-length-numbers (r ∷ p) = length-append (numbersOf p) (tagOf r ∷ []) ∙ omega (arith, length-numbers p)
+length-numbers (r ∷ p) = length-append (lsnsOf p) (tagOf r ∷ []) ∙ omega (arith, length-numbers p)
 
 -- ---- the walk
 
@@ -83,13 +83,13 @@ module _ (b : List ℕ) (k : Sound b) (s : ℕ) where
   -- from the first operation that passes, where the rest of the chain passes what comes behind it
   from-first : (f : Op → Bool) (n : ℕ) (o : Option Op) → Found b (count b) o → first f (whole b) ≡ o → ((r : Op) → f r ≡ true → ofTx s r ≡ true)
       → ((t : ℕ) → tagIn o ≡ t → 1 ≤ t → (r : Op) → behind f t r ≡ laterOf t s r)
-      → ((t : ℕ) → tagIn o ≡ t → 1 ≤ t → walk b n (tagIn (first (laterOf t s) (whole b))) ≡ numbersOf (keep (laterOf t s) (whole b)))
-      → walk b (suc n) (tagIn o) ≡ numbersOf (keep f (whole b))
-  unfolding numbersOf
+      → ((t : ℕ) → tagIn o ≡ t → 1 ≤ t → walk b n (tagIn (first (laterOf t s) (whole b))) ≡ lsnsOf (keep (laterOf t s) (whole b)))
+      → walk b (suc n) (tagIn o) ≡ lsnsOf (keep f (whole b))
+  unfolding lsnsOf
   from-first f n none d e h g ih =
       byCases (any f (whole b))
       (λ i. let (w, q, t) = first-some f (whole b) i in let z : none ≡ some w = sym e ∙ q in cc)
-      (λ i. walk-end b (suc n) 0 refl ∙ sym (ap numbersOf (keep-none f (whole b) i)))
+      (λ i. walk-end b (suc n) 0 refl ∙ sym (ap lsnsOf (keep-none f (whole b) i)))
   from-first f n (some _) (at t l m) e h g ih =
       let o : Op = opOf t (recordAt b t) in
       let u : tagOf o ≡ t = tagOf-opOf t (recordAt b t) in
@@ -101,7 +101,7 @@ module _ (b : List ℕ) (k : Sound b) (s : ℕ) where
       let c : tagIn (first f (whole b)) ≡ t = ap tagIn e ∙ u in
       rw u
       (walk-step b n t (λ x. omega arith) ∙ ap (λ x. t ∷ walk b n x) (next-of t l m own) ∙ ap (λ x. t ∷ x) (ih t u l)
-      ∙ ap (λ x. t ∷ numbersOf x) (sym (keep-ext (behind f t) (laterOf t s) (g t u l) (whole b)))
+      ∙ ap (λ x. t ∷ lsnsOf x) (sym (keep-ext (behind f t) (laterOf t s) (g t u l) (whole b)))
       ∙ sym (rw c at (numbers-first f (whole b) numbered i))))
       (λ i. let z : some o ≡ none = sym e ∙ first-none f (whole b) i in cc)
 
@@ -134,9 +134,9 @@ module _ (b : List ℕ) (k : Sound b) (s : ℕ) where
 
   walk-all : (n : ℕ) (f : Op → Bool) → ((r : Op) → f r ≡ true → ofTx s r ≡ true)
       → ((t : ℕ) → tagIn (first f (whole b)) ≡ t → 1 ≤ t → (r : Op) → behind f t r ≡ laterOf t s r)
-      → length (keep f (whole b)) ≤ n → walk b n (tagIn (first f (whole b))) ≡ numbersOf (keep f (whole b))
-  unfolding numbersOf walk
-  walk-all zero f h g l = ap numbersOf (sym (empty (keep f (whole b)) l))
+      → length (keep f (whole b)) ≤ n → walk b n (tagIn (first f (whole b))) ≡ lsnsOf (keep f (whole b))
+  unfolding lsnsOf walk
+  walk-all zero f h g l = ap lsnsOf (sym (empty (keep f (whole b)) l))
     where
       empty : (p : History) → length p ≤ 0 → p ≡ []
       empty [] l = refl
@@ -147,7 +147,7 @@ module _ (b : List ℕ) (k : Sound b) (s : ℕ) where
       walk-all n (laterOf t s) (λ r q. and-left (ofTx s r) _ q) (later-first t)
       (let a = fewer f t e m in let c = ap length (keep-ext (behind f t) (laterOf t s) (g t e m) (whole b)) in omega arith))
 
-  chain-numbers : chainOf b s ≡ numbersOf (keep (ofTx s) (whole b))
+  chain-numbers : chainOf b s ≡ lsnsOf (keep (ofTx s) (whole b))
   unfolding chainOf whole
   chain-numbers =
       walk-all (count b) (ofTx s) (λ r e. e) (λ t e l r. refl)
@@ -160,5 +160,5 @@ module _ (b : List ℕ) (k : Sound b) (s : ℕ) where
 pub visits : Visits
 visits b s e = chain-numbers b (decide-sound b e) s
 
-pub counts : Counts
-counts b s e = ap length (visits b s e) ∙ length-numbers (keep (ofTx s) (whole b))
+pub visit-count : VisitCount
+visit-count b s e = ap length (visits b s e) ∙ length-numbers (keep (ofTx s) (whole b))

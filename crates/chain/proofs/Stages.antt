@@ -12,6 +12,7 @@ use borrow.Author.Tests.{eqb-true, ne-eqb, lt-ltb, le-ltb, ltb-true, ltb-false}
 use Rattle.lists.specs.Search.{any, first, orElse}
 use Rattle.lists.proofs.BoolLaws.{byCases}
 use Rattle.lists.proofs.SearchLaws.{first-none, first-some}
+use Rattle.format.specs.declared.Lsn.{Lsn}
 use Rattle.format.specs.Layout.{recordAt}
 use Rattle.model.specs.History.{Op, tagIn, ofTx}
 use Rattle.journal.specs.declared.Reason.{Reason}
@@ -117,7 +118,7 @@ module _ (b : List ℕ) (s : ℕ) (h : Headed) (q : headerOf h ≡ answered (dec
       let z = sym (ap headerOf e) ∙ q in
       rw (begin-parts b s, refused-only _ _ (decide (openOrder b)) _ z)
 
-  pub begin-right : (n m : ℕ) (r : Answer ℕ) → h ≡ headed.Counts n m → r ≡ answered (decide (firstOrder b s)) (firstTag (whole b) s)
+  pub begin-right : (n m : ℕ) (r : Answer ℕ) → h ≡ headed.Size n m → r ≡ answered (decide (firstOrder b s)) (firstTag (whole b) s)
       → r ≡ answered (decide (beginOrder b s)) (firstTag (whole b) s)
   begin-right n m r e g =
       let z = accepted-only (decide (openOrder b)) _ _ (sym (ap headerOf e) ∙ q) in
@@ -148,32 +149,32 @@ module _ (b : List ℕ) (s : ℕ) (l : List ℕ) (g : Begun) (q : begunOf g ≡ 
       let d : decide (chainOrder b s l (length (chainOf b s))) ≡ some (record { number = numberOf why; place = placeOf why }) = chain-parts (length (chainOf b s)) ∙ rw z in
       (rw d, rw d)
 
-  module _ (i : ℕ) (e : g ≡ begun.At i) where
-    passes : (decide (beginOrder b s) ≡ none) × (i ≡ firstTag (whole b) s)
-    passes = accepted-only (decide (beginOrder b s)) i _ (sym (ap begunOf e) ∙ q)
+  module _ (i : Lsn) (e : g ≡ begun.At i) where
+    passes : (decide (beginOrder b s) ≡ none) × (i .0 ≡ firstTag (whole b) s)
+    passes = accepted-only (decide (beginOrder b s)) (i .0) _ (sym (ap begunOf e) ∙ q)
 
     pub chain-ready : Ready b (count b)
     chain-ready = opened-ready b s (passes .0)
 
-    pub chain-low : i ≤ count b
+    pub chain-low : i .0 ≤ count b
     unfolding whole
     chain-low = rw (passes .1) (found-bound (first-found (ofTx s) b (count b)))
 
-    chain-is : chainOf b s ≡ walk b (count b) i
+    chain-is : chainOf b s ≡ walk b (count b) (i .0)
     unfolding chainOf
     chain-is = ap (walk b (count b)) (sym (passes .1))
 
     decides : decide (chainOrder b s l (length (chainOf b s))) ≡ decide (try 14 0 (tooShort l (length (chainOf b s))))
     decides = chain-parts (length (chainOf b s)) ∙ rw (passes .0)
 
-    pub chain-short : (k : ℕ) → k ≡ length (walk b (count b) i) → length l < k → (refused 14 0 ≡ chain b s l .answer) × (l ≡ chain b s l .lsns)
+    pub chain-short : (k : ℕ) → k ≡ length (walk b (count b) (i .0)) → length l < k → (refused 14 0 ≡ chain b s l .answer) × (l ≡ chain b s l .lsns)
     unfolding chain tooShort
     chain-short k c h =
         let n : length (chainOf b s) ≡ k = ap length chain-is ∙ sym c in
         let d = decides ∙ decide-yes 14 0 (rw n (lt-ltb (length l) k h)) in
         (rw d, rw d)
 
-    pub chain-walked : (k : ℕ) (m : List ℕ) → k ≡ length (walk b (count b) i) → k ≤ length l → m ≡ written (walk b (count b) i) l → (accepted k ≡ chain b s l .answer) × (m ≡ chain b s l .lsns)
+    pub chain-walked : (k : ℕ) (m : List ℕ) → k ≡ length (walk b (count b) (i .0)) → k ≤ length l → m ≡ written (walk b (count b) (i .0)) l → (accepted k ≡ chain b s l .answer) × (m ≡ chain b s l .lsns)
     unfolding chain tooShort
     chain-walked k m c h w =
         let n : length (chainOf b s) ≡ k = ap length chain-is ∙ sym c in

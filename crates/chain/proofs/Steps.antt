@@ -69,11 +69,8 @@ walking-start b from l =
     record { low = l; rising = λ z. omega arith; short = omega arith; far = omega arith; left = rw e }
 
 module _ (b : List ℕ) (from k i : ℕ) (w : Walking b from k i) where
-  pub walking-long : Ready b (count b) → 20 * i + 20 ≤ length b
+  pub walking-long : Ready b (count b) → 20 * (i + 1) ≤ length b
   walking-long r = omega (arith, w .low, r .long)
-
-  pub walking-small : Ready b (count b) → i ≤ 3200
-  walking-small r = omega (arith, w .low, r .few)
 
   pub walking-same : (l m : List ℕ) → m ≡ written (take k (walk b (count b) from)) l → length (walk b (count b) from) ≤ length l → length m ≡ length l
   walking-same l m e h =
@@ -107,8 +104,8 @@ module _ (b : List ℕ) (from k i : ℕ) (w : Walking b from k i) where
           left = sym (drop-drop 1 k (walk b (count b) from)) ∙ ap (drop 1) next-left;
         })
 
-    pub next-at : getD (walk b (count b) from) k 0 ≡ i
-    next-at =
+    pub visit-at : getD (walk b (count b) from) k 0 ≡ i
+    visit-at =
         let e : k + 0 ≡ k = omega arith in
         ap (λ j. getD (walk b (count b) from) j 0) (sym e) ∙ sym (getD-drop k (walk b (count b) from) 0 0) ∙ ap (λ l. getD l 0 0) next-left
 
@@ -124,7 +121,7 @@ module _ (b : List ℕ) (from k i : ℕ) (w : Walking b from k i) where
           let g : k < length l = omega arith in
           let t : length (take k c) ≡ k = length-take-le k c (w .far) in
           let u : length (take (suc k) c) ≡ suc k = length-take-le (suc k) c f in
-          rw (e, t, add-one, u, drop-cons l k 0 g, set-at (take k c) (getD l k 0) (drop (suc k) l) i k t, take-suc c k 0 f, next-at)
+          rw (e, t, add-one, u, drop-cons l k 0 g, set-at (take k c) (getD l k 0) (drop (suc k) l) i k t, take-suc c k 0 f, visit-at)
           (sym (append-snoc (take k c) i (drop (suc k) l)))
 
   pub walking-counts : i ≡ 0 → k ≡ length (walk b (count b) from)

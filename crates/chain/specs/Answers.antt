@@ -18,7 +18,7 @@ answerOf (walked.Visited n) = accepted n
 answerOf (walked.Refused why) = refused (numberOf why) (placeOf why)
 
 abbrev pub begunOf : Begun → Answer ℕ
-begunOf (begun.At i) = accepted i
+begunOf (begun.At i) = accepted (i .0)
 begunOf (begun.Refused why) = refused (numberOf why) (placeOf why)
 
 -- the first record of transaction s in an array of first records, 0 for none; 12 without one

@@ -13,12 +13,12 @@ use Rattle.journal.specs.Orders.{soundOrder, decide}
 use Rattle.journal.specs.Calls.{chainOf}
 
 -- the record numbers of operations, oldest first
-unfoldable pub numbersOf : History → List ℕ
-numbersOf [] = []
-numbersOf (r ∷ p) = numbersOf p ++ tagOf r ∷ []
+unfoldable pub lsnsOf : History → List ℕ
+lsnsOf [] = []
+lsnsOf (r ∷ p) = lsnsOf p ++ tagOf r ∷ []
 
 abbrev pub Visits : Type 0
-Visits = (b : List ℕ) (s : ℕ) → decide (soundOrder b) ≡ none → chainOf b s ≡ numbersOf (keep (ofTx s) (whole b))
+Visits = (b : List ℕ) (s : ℕ) → decide (soundOrder b) ≡ none → chainOf b s ≡ lsnsOf (keep (ofTx s) (whole b))
 
-abbrev pub Counts : Type 0
-Counts = (b : List ℕ) (s : ℕ) → decide (soundOrder b) ≡ none → length (chainOf b s) ≡ length (keep (ofTx s) (whole b))
+abbrev pub VisitCount : Type 0
+VisitCount = (b : List ℕ) (s : ℕ) → decide (soundOrder b) ≡ none → length (chainOf b s) ≡ length (keep (ofTx s) (whole b))

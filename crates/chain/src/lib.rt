@@ -2,6 +2,7 @@
 ghost use mathlib.Core.Path.{_≡_};
 ghost use Prim.Native.Nat.{_≤_};
 ghost use lib.ListN.{length};
+ghost use Rattle.format.specs.Limits.{maxRecords};
 ghost use Rattle.journal.specs.Journal.{count, whole};
 ghost use Rattle.journal.specs.Orders.{decide};
 ghost use Rattle.journal.specs.Calls as calls;
@@ -11,6 +12,11 @@ ghost use Rattle.rules.specs.Arrays.{Ready};
 ghost use Rattle.chain.specs.Answers.{answerOf, begunOf, firstIn, firstOrder, beginOrder};
 use fields::Headed;
 use fields::header;
+use format::ITEM_SLOTS;
+use format::Lsn;
+use format::RECORD_SLOTS;
+use format::TRANSACTION_SLOTS;
+use format::TransactionId;
 use format::next_at;
 use journal::Reason;
 use lists::number_at;
@@ -25,33 +31,34 @@ pub enum Walk {
 
 // The first record of a transaction.
 enum Begun {
-    At(u32),
+    At(Lsn),
     Refused(Reason),
 }
 
 // The first record of transaction s; `firsts` has that of each transaction up to 1,024, 0 for none.
-fn first_of(firsts: &[u32], s: usize) -> Begun
-    ensures { λ r. ⌜ begunOf r ≡ firstIn (now (firsts .entry)) s ⌝ }
+fn first_of(firsts: &[u32], s: TransactionId) -> Begun
+    ensures { λ r. ⌜ begunOf r ≡ firstIn (now (firsts .entry)) (s .0) ⌝ }
 {
-    let first = number_at(firsts, s);
+    let first = number_at(firsts, s.0 as usize);
     if first == 0 {
         Begun::Refused(Reason::Unknown(0))
     } else {
-        Begun::At(first)
+        Begun::At(Lsn(first))
     }
 }
 
 // Rules 4 to 9, then 12, of a journal whose head is right.
-fn begin_opened(journal: &[u8], n: usize, keys: u32, s: usize) -> Begun
+fn begin_opened(journal: &[u8], n: u32, keys: u32, s: TransactionId) -> Begun
     requires { ⌜ Opened (now journal) n keys ⌝ }
-    ensures { λ r. ⌜ begunOf r ≡ calls.answered (decide (firstOrder (now (journal .entry)) s)) (firstTag (whole (now (journal .entry))) s) ⌝ }
+    ensures { λ r. ⌜ begunOf r
+        ≡ calls.answered (decide (firstOrder (now (journal .entry)) (s .0))) (firstTag (whole (now (journal .entry))) (s .0)) ⌝ }
 {
-    let mut ends = [0u8; 1025];
-    let mut firsts = [0u32; 1025];
-    let mut writes = [0u32; 1024];
-    let mut bases = [0u32; 1024];
-    let mut reads = [0u32; 1024];
-    let mut links = [0u32; 3201];
+    let mut ends = [0u8; TRANSACTION_SLOTS];
+    let mut firsts = [0u32; TRANSACTION_SLOTS];
+    let mut writes = [0u32; ITEM_SLOTS];
+    let mut bases = [0u32; ITEM_SLOTS];
+    let mut reads = [0u32; ITEM_SLOTS];
+    let mut links = [0u32; RECORD_SLOTS];
     let passed = records(
         journal,
         n,
@@ -65,7 +72,7 @@ fn begin_opened(journal: &[u8], n: usize, keys: u32, s: usize) -> Begun
     );
     let Verdict::Passed = passed else {
         let Verdict::Refused(why) = passed else {
-            return Begun::At(0);
+            return Begun::Refused(Reason::Truncated);
         };
         return Begun::Refused(why);
     };
@@ -73,63 +80,68 @@ fn begin_opened(journal: &[u8], n: usize, keys: u32, s: usize) -> Begun
 }
 
 // The first record of transaction s, or the first refusal of 1, 2, 4 to 9 and 12.
-fn begin(journal: &[u8], s: usize) -> Begun
-    ensures { λ r. ⌜ begunOf r ≡ calls.answered (decide (beginOrder (now (journal .entry)) s)) (firstTag (whole (now (journal .entry))) s) ⌝ }
+fn begin(journal: &[u8], s: TransactionId) -> Begun
+    ensures { λ r. ⌜ begunOf r
+        ≡ calls.answered (decide (beginOrder (now (journal .entry)) (s .0))) (firstTag (whole (now (journal .entry))) (s .0)) ⌝ }
 {
     let head = header(journal);
-    let Headed::Counts(n, keys) = head else {
+    let Headed::Size(n, keys) = head else {
         let Headed::Refused(why) = head else {
-            return Begun::At(0);
+            return Begun::Refused(Reason::Truncated);
         };
         return Begun::Refused(why);
     };
-    begin_opened(journal, n as usize, keys, s)
+    begin_opened(journal, n, keys, s)
 }
 
 // How many records the chain from `first` has.
-fn visited(journal: &[u8], first: usize) -> usize
-    requires { ⌜ Ready (now journal) (count (now journal)) × (first ≤ count (now journal)) ⌝ }
-    ensures { λ r. ⌜ (r ≡ length (calls.walk (now (journal .entry)) (count (now (journal .entry))) first)) × (r ≤ 3200) ⌝ }
+fn visited(journal: &[u8], first: Lsn) -> usize
+    requires { ⌜ Ready (now journal) (count (now journal)) × (first .0 ≤ count (now journal)) ⌝ }
+    ensures { λ r. ⌜ (r ≡ length (calls.walk (now (journal .entry)) (count (now (journal .entry))) (first .0)))
+        × (r ≤ maxRecords) ⌝ }
 {
     let mut steps = 0;
     let mut i = first;
-    while i != 0 {
-        i = next_at(journal, i) as usize;
+    while i.0 != 0 {
+        i = next_at(journal, i);
         steps += 1;
     }
     steps
 }
 
 // Writes the record numbers of the chain from `first` to the front of a list that has room for them.
-fn follow(journal: &[u8], first: usize, lsns: &mut [u32])
-    requires { ⌜ Ready (now journal) (count (now journal)) × (first ≤ count (now journal)) × (length (calls.walk (now journal) (count (now journal)) first) ≤ length (now lsns)) ⌝ }
-    ensures { λ _. ⌜ now (lsns .exit) ≡ calls.written (calls.walk (now (journal .entry)) (count (now (journal .entry))) first) (now (lsns .entry)) ⌝ }
+fn follow(journal: &[u8], first: Lsn, lsns: &mut [u32])
+    requires { ⌜ Ready (now journal) (count (now journal)) × (first .0 ≤ count (now journal))
+        × (length (calls.walk (now journal) (count (now journal)) (first .0)) ≤ length (now lsns)) ⌝ }
+    ensures { λ _. ⌜ now (lsns .exit)
+        ≡ calls.written (calls.walk (now (journal .entry)) (count (now (journal .entry))) (first .0)) (now (lsns .entry)) ⌝ }
 {
     let mut k = 0;
     let mut i = first;
-    while i != 0 {
-        lsns[k] = i as u32;
-        i = next_at(journal, i) as usize;
+    while i.0 != 0 {
+        lsns[k] = i.0;
+        i = next_at(journal, i);
         k += 1;
     }
 }
 
-// Writes the record numbers of one transaction to the front of `lsns`, in order, and answers how many there are (document 01, slip).
-pub fn chain(journal: &[u8], transaction: u16, lsns: &mut [u32]) -> Walk
-    ensures answer { λ r. ⌜ answerOf r ≡ calls.chain (now (journal .entry)) transaction (now (lsns .entry)) .answer ⌝ }
-    ensures lsns { λ r. ⌜ now (lsns .exit) ≡ calls.chain (now (journal .entry)) transaction (now (lsns .entry)) .lsns ⌝ }
+// Writes the record numbers of one transaction to the front of `lsns`, in order, and answers how many there are (document 01,
+// slip).
+pub fn chain(journal: &[u8], transaction: TransactionId, lsns: &mut [u32]) -> Walk
+    ensures answer { λ r. ⌜ answerOf r ≡ calls.chain (now (journal .entry)) (transaction .0) (now (lsns .entry)) .answer ⌝ }
+    ensures lsns { λ r. ⌜ now (lsns .exit) ≡ calls.chain (now (journal .entry)) (transaction .0) (now (lsns .entry)) .lsns ⌝ }
 {
-    let begun = begin(journal, transaction as usize);
+    let begun = begin(journal, transaction);
     let Begun::At(first) = begun else {
         let Begun::Refused(why) = begun else {
-            return Walk::Visited(0);
+            return Walk::Refused(Reason::Truncated);
         };
         return Walk::Refused(why);
     };
-    let k = visited(journal, first as usize);
+    let k = visited(journal, first);
     if lsns.len() < k {
         return Walk::Refused(Reason::Capacity);
     }
-    follow(journal, first as usize, lsns);
+    follow(journal, first, lsns);
     Walk::Visited(k as u32)
 }

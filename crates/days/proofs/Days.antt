@@ -5,26 +5,28 @@ use mathlib.Core.Bool.{Bool, true, false, cond, false≢true}
 use mathlib.Core.List.{List, [], _∷_}
 use Prim.Native.Nat.{ℕ, suc}
 use Rattle.lists.proofs.BoolLaws.{byCases}
-use Rattle.journal.specs.Inputs.{lent}
-use Rattle.journal.specs.Calls.{start, append, check, chain, undo}
+use Rattle.journal.specs.Inputs.{inputsOf}
+use Rattle.journal.specs.Calls.{start, append, check, chain, countRecords, undo}
 use Rattle.days.proofs.Computed.{computed}
-use Rattle.days.proofs.Tests.{starts, appends, checks, chains, undos}
-use Rattle.days.specs.Days.{Row, starting, appending, checking, chaining, undoing, Holds, AllHold, done, _&_, days, SecondRecord, RepeatedName}
+use Rattle.days.proofs.Tests.{starts, appends, checks, chains, countings, undos}
+use Rattle.days.specs.Days.{Row, starting, appending, checking, chaining, counting, undoing, Holds, AllHold, done, _&_, days, SecondRecord, RepeatedName}
 
 -- the call gives what the row says
 abbrev passes : Row → Bool
 passes (starting b n e) = starts .same (start b n) e
-passes (appending b t c kind s x a e) = appends .same (append (lent b t) c kind s x a) e
-passes (checking b t e) = checks .same (check (lent b t)) e
+passes (appending b t c kind s x a e) = appends .same (append (inputsOf b t) c kind s x a) e
+passes (checking b t e) = checks .same (check (inputsOf b t)) e
 passes (chaining b s l e) = chains .same (chain b s l) e
-passes (undoing b t bad m o e) = undos .same (undo (lent b t) bad m o) e
+passes (counting b e) = countings .same (countRecords b) e
+passes (undoing b t bad m o e) = undos .same (undo (inputsOf b t) bad m o) e
 
 passes-holds : (r : Row) → passes r ≡ true → Holds r
 passes-holds (starting b n e) = starts .means (start b n) e
-passes-holds (appending b t c kind s x a e) = appends .means (append (lent b t) c kind s x a) e
-passes-holds (checking b t e) = checks .means (check (lent b t)) e
+passes-holds (appending b t c kind s x a e) = appends .means (append (inputsOf b t) c kind s x a) e
+passes-holds (checking b t e) = checks .means (check (inputsOf b t)) e
 passes-holds (chaining b s l e) = chains .means (chain b s l) e
-passes-holds (undoing b t bad m o e) = undos .means (undo (lent b t) bad m o) e
+passes-holds (counting b e) = countings .means (countRecords b) e
+passes-holds (undoing b t bad m o e) = undos .means (undo (inputsOf b t) bad m o) e
 
 -- the positions, from k on, of the rows that do not pass
 abbrev failing : ℕ → List Row → List ℕ

@@ -1,4 +1,4 @@
 pub mod Computed
 pub mod Tests
 pub mod Days
-pub mod Slips
+pub mod Mistakes

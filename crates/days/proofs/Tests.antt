@@ -9,8 +9,8 @@ use borrow.Author.Tests.{eqb-true}
 use Rattle.lists.proofs.BoolLaws.{and-left, and-right}
 use Rattle.model.specs.History.{Amount, sameAmount}
 use Rattle.model.proofs.Amounts.{same-eq}
-use Rattle.journal.specs.Refusals.{Tally}
-use Rattle.journal.specs.Calls.{Answer, refused, accepted, Started, Walked, Appended, Counts, Undone}
+use Rattle.journal.specs.Refusals.{RecordCounts}
+use Rattle.journal.specs.Calls.{Answer, refused, accepted, StartResult, ChainResult, AppendResult, UndoTotals, UndoResult}
 
 -- a test, and what it means
 pub record Equality (A : Type 0) : Type 0 where
@@ -90,45 +90,48 @@ module _ {A B : Type 0} (f : Equality B) (out : A → B) (back : B → A) (again
 
 -- ---- what the calls answer and leave
 
-abbrev tallies : Equality Tally
-tallies =
+abbrev recordCounts : Equality RecordCounts
+recordCounts =
     fields (pairs (pairs numbers numbers) (pairs numbers numbers))
     (λ c. ((c .reads, c .writes), (c .commits, c .aborts)))
     (λ p. record { reads = p .0 .0; writes = p .0 .1; commits = p .1 .0; aborts = p .1 .1 })
     (λ c. refl)
 
-abbrev totals : Equality Counts
+abbrev totals : Equality UndoTotals
 totals =
     fields (pairs (pairs numbers numbers) (pairs numbers numbers))
     (λ c. ((c .surviving, c .undone), (c .aborted, c .bytes)))
     (λ p. record { surviving = p .0 .0; undone = p .0 .1; aborted = p .1 .0; bytes = p .1 .1 })
     (λ c. refl)
 
-abbrev pub starts : Equality Started
+abbrev pub starts : Equality StartResult
 starts =
     fields (pairs (answers nothing) (lists numbers))
     (λ r. (r .answer, r .journal))
     (λ p. record { answer = p .0; journal = p .1 })
     (λ r. refl)
 
-abbrev pub appends : Equality Appended
+abbrev pub appends : Equality AppendResult
 appends =
-    fields (pairs (pairs (answers nothing) (lists numbers)) (pairs (lists amounts) tallies))
-    (λ r. ((r .answer, r .journal), (r .table, r .tally)))
-    (λ p. record { answer = p .0 .0; journal = p .0 .1; table = p .1 .0; tally = p .1 .1 })
+    fields (pairs (pairs (answers nothing) (lists numbers)) (pairs (lists amounts) recordCounts))
+    (λ r. ((r .answer, r .journal), (r .table, r .counts)))
+    (λ p. record { answer = p .0 .0; journal = p .0 .1; table = p .1 .0; counts = p .1 .1 })
     (λ r. refl)
 
 abbrev pub checks : Equality (Answer ℕ)
 checks = answers numbers
 
-abbrev pub chains : Equality Walked
+abbrev pub chains : Equality ChainResult
 chains =
     fields (pairs (answers numbers) (lists numbers))
     (λ r. (r .answer, r .lsns))
     (λ p. record { answer = p .0; lsns = p .1 })
     (λ r. refl)
 
-abbrev pub undos : Equality Undone
+abbrev pub countings : Equality (Answer RecordCounts)
+countings = answers recordCounts
+
+abbrev pub undos : Equality UndoResult
 undos =
     fields (pairs (pairs (answers totals) (lists amounts)) (pairs (lists numbers) (lists numbers)))
     (λ r. ((r .answer, r .table), (r .status, r .out)))

@@ -1,3 +1,3 @@
 pub mod Journals
 pub mod Days
-pub mod Slips
+pub mod Mistakes

@@ -20,13 +20,13 @@ use Rattle.format.specs.Bytes.{bytes}
 use Rattle.format.proofs.BytesLaws.{length-bytes}
 use Rattle.format.proofs.LayoutLaws.{length-bytesOf, recordAt-front}
 use Rattle.model.specs.History.{Op, Amount, ofTx, tagIn, laterOf}
-use Rattle.journal.specs.Inputs.{lent}
+use Rattle.journal.specs.Inputs.{inputsOf}
 use Rattle.journal.specs.Journal.{count, items, txIn, records, history, whole}
-use Rattle.journal.specs.Refusals.{Tally, short, torn, badHead, wrongTable, unchained, unsettled, stillActive, unknown, absent, noRoom, wrongTally}
-use Rattle.journal.specs.Orders.{Refusal, tryEach, decide, openOrder, recordOrder, recordsOrder, soundOrder, tableOrder, settledOrder, activeOrder, knownOrder, presentOrder, capacityOrder, tallyOrder, newOrder, checkOrder, chainOrder, appendOrder, undoOrder, startOrder}
-use Rattle.journal.specs.Copy.{Rule, unchanged, recordsKept, copyKept, copy, headWith}
-use Rattle.journal.specs.Results.{tableKept, totals, result}
-use Rattle.journal.specs.Calls.{check, walk, chainOf, chain, link, extended, newRecord, append, undo, openingAt, start}
+use Rattle.journal.specs.Refusals.{RecordCounts, short, truncated, badHead, wrongTable, wrongNext, unsettled, stillActive, unknown, absent, noRoom, wrongCounts}
+use Rattle.journal.specs.Orders.{Refusal, tryEach, decide, openOrder, recordOrder, recordsOrder, soundOrder, tableOrder, settledOrder, activeOrder, knownOrder, presentOrder, capacityOrder, countsOrder, newOrder, checkOrder, chainOrder, appendOrder, undoOrder, startOrder}
+use Rattle.journal.specs.Copy.{CopyRule, unchanged, recordsSurviving, copySurviving, copy, headWith}
+use Rattle.journal.specs.Results.{tableSurviving, totals, result}
+use Rattle.journal.specs.Calls.{check, walk, chainOf, chain, link, extended, newRecord, append, countRecords, undo, openingAt, start}
 use Rattle.model.proofs.Extension.{first-tag, latest-tag}
 use Rattle.journal.proofs.OrdersLaws.{decide-turns, decide-cases, tryEach-ext}
 use Rattle.journal.proofs.Clear.{decide-clear}
@@ -89,7 +89,7 @@ module _ (b c : List ℕ) (a : Agree b c) where
   -- ---- the same orders
 
   open-agree : openOrder b ≡ openOrder c
-  unfolding openOrder short badHead torn
+  unfolding openOrder short badHead truncated
   open-agree =
       let l1 : ltb (length b) 20 ≡ false = le-ltb (length b) 20 (omega (arith, a .left)) in
       let l2 : ltb (length c) 20 ≡ false = le-ltb (length c) 20 (omega (arith, a .right)) in
@@ -97,13 +97,13 @@ module _ (b c : List ℕ) (a : Agree b c) where
       let l4 : ltb (length c) (20 * (count c + 1)) ≡ false = le-ltb (length c) (20 * (count c + 1)) (omega (arith, a .right, count-agree)) in
       rw (l1, l2, l3, l4, record-agree 0 (omega arith))
 
-  unchained-agree : (i : ℕ) → i ≤ count b → unchained b i ≡ unchained c i
-  unfolding unchained
-  unchained-agree i h = rw (record-agree i h, whole-agree)
+  wrongNext-agree : (i : ℕ) → i ≤ count b → wrongNext b i ≡ wrongNext c i
+  unfolding wrongNext
+  wrongNext-agree i h = rw (record-agree i h, whole-agree)
 
   record-order : (i : ℕ) → i ≤ count b → recordOrder b i ≡ recordOrder c i
   unfolding recordOrder
-  record-order i h = rw (unchained-agree i h, record-agree i h, items-agree, history-agree (pred i) (omega arith))
+  record-order i h = rw (wrongNext-agree i h, record-agree i h, items-agree, history-agree (pred i) (omega arith))
 
   records-order : recordsOrder b ≡ recordsOrder c
   unfolding recordsOrder
@@ -117,41 +117,41 @@ module _ (b c : List ℕ) (a : Agree b c) where
   unfolding unsettled
   unsettled-agree t x = rw whole-agree
 
-  settled-order : (t : List Amount) → settledOrder (lent b t) ≡ settledOrder (lent c t)
+  settled-order : (t : List Amount) → settledOrder (inputsOf b t) ≡ settledOrder (inputsOf c t)
   unfolding settledOrder
   settled-order t = tryEach-ext 10 (unsettled b t) (unsettled c t) 0 (items b) (λ x l u. unsettled-agree t x) ∙ ap (tryEach 10 (unsettled c t) 0) items-agree
 
-  pub check-order : (t : List Amount) → checkOrder (lent b t) ≡ checkOrder (lent c t)
+  pub check-order : (t : List Amount) → checkOrder (inputsOf b t) ≡ checkOrder (inputsOf c t)
   unfolding checkOrder tableOrder wrongTable
   check-order t = rw (open-agree, items-agree, records-order, settled-order t)
 
-  check-agree : (t : List Amount) → check (lent b t) ≡ check (lent c t)
+  check-agree : (t : List Amount) → check (inputsOf b t) ≡ check (inputsOf c t)
   unfolding check
   check-agree t = rw (check-order t, whole-agree)
 
   -- ---- take-back
 
-  kept-agree : (φ : Rule) (k : ℕ → Bool) → copyKept φ k b ≡ copyKept φ k c
-  unfolding copyKept recordsKept
-  kept-agree φ k = rw (items-agree, whole-agree, records-agree)
+  copySurviving-agree : (φ : CopyRule) (k : ℕ → Bool) → copySurviving φ k b ≡ copySurviving φ k c
+  unfolding copySurviving recordsSurviving
+  copySurviving-agree φ k = rw (items-agree, whole-agree, records-agree)
 
   copy-agree : (bad : List ℕ) → copy bad b ≡ copy bad c
   unfolding copy
-  copy-agree bad = rw (whole-agree, kept-agree)
+  copy-agree bad = rw (whole-agree, copySurviving-agree)
 
-  result-agree : (φ : Rule) (u k : ℕ → Bool) (d : Option Refusal) (t : List Amount) (status out : List ℕ) → result φ u k d (lent b t) status out ≡ result φ u k d (lent c t) status out
-  unfolding result tableKept openingAt totals
-  result-agree φ u k d t status out = rw (whole-agree, kept-agree φ k)
+  result-agree : (φ : CopyRule) (u k : ℕ → Bool) (d : Option Refusal) (t : List Amount) (status out : List ℕ) → result φ u k d (inputsOf b t) status out ≡ result φ u k d (inputsOf c t) status out
+  unfolding result tableSurviving openingAt totals
+  result-agree φ u k d t status out = rw (whole-agree, copySurviving-agree φ k)
 
   active-agree : activeOrder (stillActive b) ≡ activeOrder (stillActive c)
   unfolding activeOrder stillActive
   active-agree = tryEach-ext 11 _ _ 1 1024 (λ s l u. rw whole-agree)
 
-  undo-order : (t : List Amount) (bad status out : List ℕ) → undoOrder (lent b t) bad status out (length (copy bad b)) ≡ undoOrder (lent c t) bad status out (length (copy bad c))
+  undo-order : (t : List Amount) (bad status out : List ℕ) → undoOrder (inputsOf b t) bad status out (length (copy bad b)) ≡ undoOrder (inputsOf c t) bad status out (length (copy bad c))
   unfolding undoOrder knownOrder unknown
   undo-order t bad status out = rw (check-order t, active-agree, whole-agree, copy-agree bad)
 
-  undo-agree : (t : List Amount) (bad status out : List ℕ) → undo (lent b t) bad status out ≡ undo (lent c t) bad status out
+  undo-agree : (t : List Amount) (bad status out : List ℕ) → undo (inputsOf b t) bad status out ≡ undo (inputsOf c t) bad status out
   unfolding undo
   undo-agree t bad status out = rw (undo-order t bad status out, whole-agree) (result-agree unchanged _ _ _ t status out)
 
@@ -189,8 +189,8 @@ module _ (b c : List ℕ) (a : Agree b c) where
 
   -- ---- post
 
-  append-order : (t : List Amount) (n : Tally) (r : Record) → noRoom b ≡ noRoom c → appendOrder (lent b t) n r ≡ appendOrder (lent c t) n r
-  unfolding appendOrder tallyOrder newOrder wrongTally
+  append-order : (t : List Amount) (n : RecordCounts) (r : Record) → noRoom b ≡ noRoom c → appendOrder (inputsOf b t) n r ≡ appendOrder (inputsOf c t) n r
+  unfolding appendOrder countsOrder newOrder wrongCounts
   append-order t n r e = rw (check-order t, whole-agree, items-agree, count-agree, e)
 
   module _ (r : Record) (e : noRoom b ≡ noRoom c) (f : noRoom b ≡ false) where
@@ -233,11 +233,11 @@ module _ (b c : List ℕ) (a : Agree b c) where
         rw (← count-agree, ← whole-agree)
         (front-added b room-left i l ∙ ap (λ d. store 4 (bytes 4 (suc (count b))) (link (suc (count b)) i (d ++ bytesOf r))) (a .same) ∙ sym (front-added c room-right i l))
 
-  append-agree : (t : List Amount) (n : Tally) (kind s x : ℕ) (v : Amount) → noRoom b ≡ noRoom c
-      → (append (lent b t) n kind s x v .answer ≡ append (lent c t) n kind s x v .answer) × (append (lent b t) n kind s x v .table ≡ append (lent c t) n kind s x v .table)
-      × (append (lent b t) n kind s x v .tally ≡ append (lent c t) n kind s x v .tally)
-      × (accepts (append (lent b t) n kind s x v .answer) ≡ true
-      → take (20 * (count b + 1) + 20) (append (lent b t) n kind s x v .journal) ≡ take (20 * (count b + 1) + 20) (append (lent c t) n kind s x v .journal))
+  append-agree : (t : List Amount) (n : RecordCounts) (kind s x : ℕ) (v : Amount) → noRoom b ≡ noRoom c
+      → (append (inputsOf b t) n kind s x v .answer ≡ append (inputsOf c t) n kind s x v .answer) × (append (inputsOf b t) n kind s x v .table ≡ append (inputsOf c t) n kind s x v .table)
+      × (append (inputsOf b t) n kind s x v .counts ≡ append (inputsOf c t) n kind s x v .counts)
+      × (accepts (append (inputsOf b t) n kind s x v .answer) ≡ true
+      → take (20 * (count b + 1) + 20) (append (inputsOf b t) n kind s x v .journal) ≡ take (20 * (count b + 1) + 20) (append (inputsOf c t) n kind s x v .journal))
   unfolding append
   append-agree t n kind s x v e =
       let r : Record = newRecord t kind s x v in
@@ -246,21 +246,21 @@ module _ (b c : List ℕ) (a : Agree b c) where
         rw (o, whole-agree, count-agree),
         rw o,
         λ h.
-            let d = answered-none (decide (appendOrder (lent b t) n r)) tt h in
-            let f = clear-appended b t n r (decide-clear (appendOrder (lent b t) n r) d) .2 .room in
+            let d = answered-none (decide (appendOrder (inputsOf b t) n r)) tt h in
+            let f = clear-appended b t n r (decide-clear (appendOrder (inputsOf b t) n r) d) .2 .room in
             rw (d, sym (ap decide o) ∙ d) (extended-agree r e f),
       )
 
 -- what an accepted post writes ends with its record
-behind-append : (b : List ℕ) (t : List Amount) (n : Tally) (kind s x : ℕ) (v : Amount)
-    → drop (20 * (count b + 1) + 20) (append (lent b t) n kind s x v .journal) ≡ drop (20 * (count b + 1) + 20) b
+behind-append : (b : List ℕ) (t : List Amount) (n : RecordCounts) (kind s x : ℕ) (v : Amount)
+    → drop (20 * (count b + 1) + 20) (append (inputsOf b t) n kind s x v .journal) ≡ drop (20 * (count b + 1) + 20) b
 unfolding append
 behind-append b t n kind s x v =
     let r : Record = newRecord t kind s x v in
     let m : 20 * (count b + 2) ≡ 20 * (count b + 1) + 20 = omega arith in
-    decide-cases (appendOrder (lent b t) n r)
+    decide-cases (appendOrder (inputsOf b t) n r)
     (λ z.
-    let f = clear-appended b t n r (decide-clear (appendOrder (lent b t) n r) z) .2 .room in
+    let f = clear-appended b t n r (decide-clear (appendOrder (inputsOf b t) n r) z) .2 .room in
     rw z (ap (λ k. drop k (extended b r)) (sym m) ∙ extended-behind b r (room b f .1) ∙ ap (λ k. drop k b) m))
     (λ q z. rw z)
 
@@ -273,12 +273,17 @@ behind-start b n =
     rw z (drop-store 0 (bytesOf (headWith 0 n)) b (omega (arith, length-bytesOf (headWith 0 n))) 20 (omega (arith, length-bytesOf (headWith 0 n)))))
     (λ q z. rw z)
 
+count-agrees : (b c : List ℕ) → Agree b c → countRecords b ≡ countRecords c
+unfolding countRecords
+count-agrees b c a = rw (open-agree b c a, whole-agree b c a)
+
 pub behind : Behind
 behind =
     record {
       start = behind-start;
       check = λ d c a. check-agree (d .journal) c a (d .table);
       chain = λ b c s l a. chain-agree b c a s l;
+      countRecords = count-agrees;
       undo = λ d c bad status out a. undo-agree (d .journal) c a (d .table) bad status out;
       behind = λ d. behind-append (d .journal) (d .table);
       append = λ d c n kind s x v a e. append-agree (d .journal) c a (d .table) n kind s x v e;

@@ -2,21 +2,32 @@
 -- Document 01, "The rules of taking back". Assumes nothing.
 use mathlib.Core.Path.{_≡_}
 use mathlib.Core.Bool.{Bool, true, false}
-use mathlib.Core.List.{List, [], _∷_}
-use Prim.Native.Nat.{ℕ}
+use mathlib.Core.List.{List, [], _∷_, map}
+use Prim.Native.Nat.{ℕ, _≤_}
 use mir.Syntax.{w32}
 use mir.Val.{SFits}
 use Rattle.lists.specs.Search.{any}
+use Rattle.format.specs.declared.Record.{Record}
 use Rattle.format.specs.Bytes.{Bytes}
-use Rattle.model.specs.History.{Amount, ofTx, ended}
+use Rattle.format.specs.Layout.{recordAt}
+use Rattle.model.specs.History.{Amount, ofTx, ended, nextIn}
 use Rattle.journal.specs.Inputs.{Inputs}
-use Rattle.journal.specs.Journal.{whole}
+use Rattle.journal.specs.Journal.{count, txIn, records, whole}
+use Rattle.journal.specs.Copy.{linkedTo}
 use Rattle.journal.specs.Calls.{Answer, refused, accepted, check}
 
 -- the call is accepted
 abbrev pub accepts : {A : Type 0} → Answer A → Bool
 accepts (refused n p) = false
 accepts (accepted a) = true
+
+-- the journal's records, newest first, all fields but next
+abbrev pub recordsOf : List ℕ → List Record
+recordsOf b = map (linkedTo 0) (records b (count b))
+
+-- next is right at each record
+abbrev pub Chained : List ℕ → Type 0
+Chained b = (i : ℕ) → 1 ≤ i → i ≤ count b → recordAt b i .next .0 ≡ nextIn (whole b) i (txIn (recordAt b i))
 
 -- each amount is a signed 32-bit number, as the type of a table says
 pub data Amounts : List Amount → Type 0 where
@@ -31,7 +42,12 @@ Pass d = accepts (check d) ≡ true
 abbrev pub Finished : List ℕ → Type 0
 Finished b = (s : ℕ) → any (ofTx s) (whole b) ≡ true → ended (whole b) s ≡ true
 
--- a journal of bytes, with its table, that pass with every sale finished
+-- a journal and table that pass with every sale finished
+pub record PassFinished (d : Inputs) : Type 0 where
+  pub pass : Pass d
+  pub finished : Finished (d .journal)
+
+-- the same, of a journal of bytes
 pub record Day (d : Inputs) : Type 0 where
   pub bytes : Bytes (d .journal)
   pub pass : Pass d

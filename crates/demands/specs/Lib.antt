@@ -1,5 +1,8 @@
+pub mod Demands
 pub mod Days
+pub mod ReadsFrom
 pub mod Undoing
-pub mod Cut
-pub mod Posting
+pub mod Incremental
+pub mod Appending
 pub mod Refusing
+pub mod Counting

@@ -10,7 +10,7 @@ use lib.ListN.{length, replicate}
 use borrow.Author.Tests.{eq-eqb, ne-eqb}
 use Rattle.lists.specs.Search.{orElse}
 use Rattle.model.specs.History.{History, Amount}
-use Rattle.journal.specs.Inputs.{lent}
+use Rattle.journal.specs.Inputs.{inputsOf}
 use Rattle.journal.specs.declared.Reason.{Reason}
 use Rattle.journal.specs.Reasons.{numberOf, placeOf}
 use Rattle.journal.specs.Journal.{count, items, history, whole}
@@ -34,12 +34,12 @@ use Rattle.validate.specs.Answers.{activeIn}
 use Rattle.validate.proofs.Pass.{state-start, ready-at}
 use Rattle.validate.proofs.Final.{active-at}
 use Rattle.validate.proofs.Whole.{check-clear, checked-ready}
-use Rattle.examine.specs.Stages.{unknownIn, admitOrder, examinedOrder, endedOrder, unsettledOrder, Examined, Left}
+use Rattle.examine.specs.Stages.{unknownIn, admitOrder, examinedOrder, endedOrder, unsettledOrder, Examined, ExaminedIf}
 
 -- ---- answers
 
 -- a refusal is nothing else
-pub never-counts : {A : Type 0} (why : Reason) (n m : ℕ) → headed.Refused why ≡ headed.Counts n m → A
+pub never-counts : {A : Type 0} (why : Reason) (n m : ℕ) → headed.Refused why ≡ headed.Size n m → A
 never-counts why n m e = absurd (Option·none-ne-some (refusalOf why) (refused-only (numberOf why) (placeOf why) none (record { records = n; items = m }) (ap headerOf e)))
 
 -- ---- the working arrays at the start
@@ -53,7 +53,7 @@ ends-long p l e = rw (e, length-ends)
 pub state-zero : (b ends : List ℕ) → ends ≡ endsOf (history b 0) → State b 0 ends (replicate 1025 0) (replicate 1024 0) (replicate 1024 0) (replicate 1024 0) (replicate 3201 0)
 state-zero b ends e =
     let s = state-start b in
-    record { ended = e; begun = s .begun; written = s .written; based = s .based; sighted = s .sighted; linked = s .linked }
+    record { ended = e; begun = s .begun; written = s .written; based = s .based; lastRead = s .lastRead; linked = s .linked }
 
 -- ---- 11, from the working arrays
 
@@ -64,35 +64,35 @@ active-same b ends firsts e f = tryEach-ext 11 _ _ 1 1024 (λ s l u. active-at b
 
 -- ---- 1 to 11
 
-module _ (b : List ℕ) (t : List Amount) (h : Headed) (q : headerOf h ≡ answered (decide (checkOrder (lent b t))) (sizeOf b)) where
-  pub examined-head : (why : Reason) → h ≡ headed.Refused why → headerOf h ≡ answered (decide (examinedOrder (lent b t))) (sizeOf b)
+module _ (b : List ℕ) (t : List Amount) (h : Headed) (q : headerOf h ≡ answered (decide (checkOrder (inputsOf b t))) (sizeOf b)) where
+  pub examined-head : (why : Reason) → h ≡ headed.Refused why → headerOf h ≡ answered (decide (examinedOrder (inputsOf b t))) (sizeOf b)
   unfolding examinedOrder
   examined-head why e =
-      let d : decide (checkOrder (lent b t)) ≡ some (refusalOf why) = refused-only (numberOf why) (placeOf why) (decide (checkOrder (lent b t))) (sizeOf b) (sym (ap headerOf e) ∙ q) in
-      rw (decide-turn-some (checkOrder (lent b t)) (activeOrder (stillActive b) ∷ []) d, e)
+      let d : decide (checkOrder (inputsOf b t)) ≡ some (refusalOf why) = refused-only (numberOf why) (placeOf why) (decide (checkOrder (inputsOf b t))) (sizeOf b) (sym (ap headerOf e) ∙ q) in
+      rw (decide-turn-some (checkOrder (inputsOf b t)) (activeOrder (stillActive b) ∷ []) d, e)
 
-  module _ (n m : ℕ) (e : h ≡ headed.Counts n m) (ends firsts writes bases reads links : List ℕ) (k : decide (checkOrder (lent b t)) ≡ none → State b (count b) ends firsts writes bases reads links)
+  module _ (n m : ℕ) (e : h ≡ headed.Size n m) (ends firsts writes bases reads links : List ℕ) (k : decide (checkOrder (inputsOf b t)) ≡ none → State b (count b) ends firsts writes bases reads links)
       (v : Verdict) (g : verdictOf v ≡ decide (activeOrder (activeIn ends firsts))) where
-    clear : decide (checkOrder (lent b t)) ≡ none
+    clear : decide (checkOrder (inputsOf b t)) ≡ none
     clear = check-clear b t h q n m e
 
     size-is : accepted (record { records = n; items = m }) ≡ accepted (sizeOf b)
     size-is = sym (ap headerOf e) ∙ q ∙ ap (λ d. answered d (sizeOf b)) clear
 
-    examined-same : decide (examinedOrder (lent b t)) ≡ verdictOf v
+    examined-same : decide (examinedOrder (inputsOf b t)) ≡ verdictOf v
     unfolding examinedOrder
     examined-same =
-        decide-turn-none (checkOrder (lent b t)) _ clear ∙ decide-one (activeOrder (stillActive b))
+        decide-turn-none (checkOrder (inputsOf b t)) _ clear ∙ decide-one (activeOrder (stillActive b))
         ∙ sym (g ∙ ap decide (active-same b ends firsts (k clear .ended) (k clear .begun)))
 
-    pub examined-refused : (why : Reason) → v ≡ verdict.Refused why → refused (numberOf why) (placeOf why) ≡ answered (decide (examinedOrder (lent b t))) (sizeOf b)
+    pub examined-refused : (why : Reason) → v ≡ verdict.Refused why → refused (numberOf why) (placeOf why) ≡ answered (decide (examinedOrder (inputsOf b t))) (sizeOf b)
     examined-refused why p = rw (examined-same, p)
 
     module _ (p : v ≡ verdict.Passed) where
-      pub examined-passed : accepted (record { records = n; items = m }) ≡ answered (decide (examinedOrder (lent b t))) (sizeOf b)
+      pub examined-passed : accepted (record { records = n; items = m }) ≡ answered (decide (examinedOrder (inputsOf b t))) (sizeOf b)
       examined-passed = rw (examined-same, p) size-is
 
-      pub examined-left : Examined (examinedOrder (lent b t)) b n m ends
+      pub examined-left : Examined (examinedOrder (inputsOf b t)) b n m ends
       examined-left =
           let z : _≡_ {A = Size} (record { records = n; items = m }) (sizeOf b) = accepted-only none _ _ size-is .1 in
           let c : n ≡ count b = ap (λ s. s .records) z in
@@ -124,38 +124,38 @@ pub never-none : {A : Type 0} (v : Verdict) (why : Reason) → v ≡ verdict.Ref
 never-none v why e z = absurd (Option·none-ne-some (refusalOf why) (sym z ∙ ap verdictOf e))
 
 module _ (b : List ℕ) (t : List Amount) (h : Headed) (q : headerOf h ≡ answered (decide (openOrder b)) (sizeOf b)) where
-  unsettled-parts : decide (unsettledOrder (lent b t)) ≡ orElse (decide (openOrder b)) (orElse (decide (tableOrder (lent b t))) (decide (endedOrder b)))
+  unsettled-parts : decide (unsettledOrder (inputsOf b t)) ≡ orElse (decide (openOrder b)) (orElse (decide (tableOrder (inputsOf b t))) (decide (endedOrder b)))
   unfolding unsettledOrder
   unsettled-parts =
-      decide-turn (openOrder b) (tableOrder (lent b t) ∷ endedOrder b ∷ [])
-      ∙ ap (orElse (decide (openOrder b))) (decide-turn (tableOrder (lent b t)) (endedOrder b ∷ []) ∙ ap (orElse (decide (tableOrder (lent b t)))) (decide-one (endedOrder b)))
+      decide-turn (openOrder b) (tableOrder (inputsOf b t) ∷ endedOrder b ∷ [])
+      ∙ ap (orElse (decide (openOrder b))) (decide-turn (tableOrder (inputsOf b t)) (endedOrder b ∷ []) ∙ ap (orElse (decide (tableOrder (inputsOf b t)))) (decide-one (endedOrder b)))
 
-  pub unsettled-head : (why : Reason) → h ≡ headed.Refused why → headerOf h ≡ answered (decide (unsettledOrder (lent b t))) (sizeOf b)
+  pub unsettled-head : (why : Reason) → h ≡ headed.Refused why → headerOf h ≡ answered (decide (unsettledOrder (inputsOf b t))) (sizeOf b)
   unsettled-head why e =
       let d = refused-only (numberOf why) (placeOf why) (decide (openOrder b)) (sizeOf b) (sym (ap headerOf e) ∙ q) in rw (unsettled-parts, d, e)
 
-  module _ (n m : ℕ) (e : h ≡ headed.Counts n m) where
-    pub unsettled-table : (length t ≡ m → ⊥) → refused 3 0 ≡ answered (decide (unsettledOrder (lent b t))) (sizeOf b)
+  module _ (n m : ℕ) (e : h ≡ headed.Size n m) where
+    pub unsettled-table : (length t ≡ m → ⊥) → refused 3 0 ≡ answered (decide (unsettledOrder (inputsOf b t))) (sizeOf b)
     unfolding tableOrder wrongTable
     unsettled-table z =
         let w = ap not (ne-eqb (length t) (items b) (λ y. z (y ∙ sym (header-opened b h q n m e .keys)))) in
         rw (unsettled-parts, header-parts b h q n m e .0, decide-yes 3 0 w)
 
     module _ (z : length t ≡ m) (v : Verdict) (g : verdictOf v ≡ decide (endedOrder b)) where
-      unsettled-same : decide (unsettledOrder (lent b t)) ≡ verdictOf v
+      unsettled-same : decide (unsettledOrder (inputsOf b t)) ≡ verdictOf v
       unfolding tableOrder wrongTable
       unsettled-same =
           let w = ap not (eq-eqb (length t) (items b) (z ∙ header-opened b h q n m e .keys)) in
           rw (unsettled-parts, header-parts b h q n m e .0, decide-no 3 0 w, g)
 
-      pub unsettled-refused : (why : Reason) → v ≡ verdict.Refused why → refused (numberOf why) (placeOf why) ≡ answered (decide (unsettledOrder (lent b t))) (sizeOf b)
+      pub unsettled-refused : (why : Reason) → v ≡ verdict.Refused why → refused (numberOf why) (placeOf why) ≡ answered (decide (unsettledOrder (inputsOf b t))) (sizeOf b)
       unsettled-refused why p = rw (unsettled-same, p)
 
       module _ (p : v ≡ verdict.Passed) where
-        pub unsettled-passed : accepted (record { records = n; items = m }) ≡ answered (decide (unsettledOrder (lent b t))) (sizeOf b)
+        pub unsettled-passed : accepted (record { records = n; items = m }) ≡ answered (decide (unsettledOrder (inputsOf b t))) (sizeOf b)
         unsettled-passed = rw (unsettled-same, p) (sym (ap headerOf e) ∙ q ∙ rw (header-parts b h q n m e .0))
 
-        pub unsettled-left : (ends : List ℕ) → (verdictOf v ≡ none → ends ≡ endsOf (history b n)) → Examined (unsettledOrder (lent b t)) b n m ends
+        pub unsettled-left : (ends : List ℕ) → (verdictOf v ≡ none → ends ≡ endsOf (history b n)) → Examined (unsettledOrder (inputsOf b t)) b n m ends
         unfolding endedOrder recordsOrder
         unsettled-left ends k =
             let o = header-opened b h q n m e in
@@ -171,10 +171,10 @@ module _ (b : List ℕ) (t : List Amount) (h : Headed) (q : headerOf h ≡ answe
 -- ---- what is left
 
 module _ (o : Order) (b ends : List ℕ) (h : Headed) where
-  pub left-refused : (why : Reason) → h ≡ headed.Refused why → Left h o b ends
+  pub left-refused : (why : Reason) → h ≡ headed.Refused why → ExaminedIf h o b ends
   left-refused why e = rw e tt
 
-  pub left-counts : (n m : ℕ) → h ≡ headed.Counts n m → Left h o b ends → Examined o b n m ends
+  pub left-counts : (n m : ℕ) → h ≡ headed.Size n m → ExaminedIf h o b ends → Examined o b n m ends
   left-counts n m e l = rw e at l
 
 -- ---- 13, then 12

@@ -38,13 +38,13 @@ module _ (ends bad : List ℕ) where
   unfolding knownOrder
   known-start = tried-start 12 (unknownAt ends bad) (length bad)
 
-  module _ (k : ℕ) (d : Option Refusal) (e : d ≡ decide (tryEach 12 (unknownAt ends bad) k (length bad - k))) (h : k < length bad) (s end : ℕ) (a : s ≡ getD bad k 0) (b : end ≡ getD ends s 0) where
+  module _ (k : ℕ) (d : Option Refusal) (e : d ≡ decide (tryEach 12 (unknownAt ends bad) k (length bad - k))) (h : k < length bad) (end : ℕ) (b : end ≡ getD ends (getD bad k 0) 0) where
     pub known-passed : end ≡ 1 → d ≡ decide (tryEach 12 (unknownAt ends bad) (k + 1) (length bad - (k + 1)))
     unfolding unknownIn coded
     known-passed z =
-        tried-passed 12 (unknownAt ends bad) k (length bad) d e h (ap not (eq-eqb (getD ends (getD bad k 0) 0) 1 (ap (λ v. getD ends v 0) (sym a) ∙ sym b ∙ z)))
+        tried-passed 12 (unknownAt ends bad) k (length bad) d e h (ap not (eq-eqb (getD ends (getD bad k 0) 0) 1 (sym b ∙ z)))
 
     pub known-refused : (end ≡ 1 → ⊥) → some (record { number = 12; place = k }) ≡ d
     unfolding unknownIn coded
     known-refused z =
-        tried-refused 12 (unknownAt ends bad) k (length bad) d e h (ap not (ne-eqb (getD ends (getD bad k 0) 0) 1 (λ q. z (b ∙ ap (λ v. getD ends v 0) a ∙ q))))
+        tried-refused 12 (unknownAt ends bad) k (length bad) d e h (ap not (ne-eqb (getD ends (getD bad k 0) 0) 1 (λ q. z (b ∙ q))))

@@ -9,7 +9,8 @@ use Rattle.lists.specs.Tables.{coded}
 use Rattle.journal.specs.Inputs.{Inputs}
 use Rattle.journal.specs.Journal.{count, items, history}
 use Rattle.journal.specs.Refusals.{stillActive}
-use Rattle.journal.specs.Orders.{Order, inTurn, openOrder, tableOrder, recordsOrder, activeOrder, knownOrder, statusOrder, checkOrder, decide}
+use Rattle.journal.specs.Orders.{Order, inTurn, openOrder, tableOrder, recordsOrder, activeOrder, knownOrder, statusOrder}
+use Rattle.journal.specs.Orders.{checkOrder, decide}
 use Rattle.fields.specs.declared.Headed.{Headed}
 use Rattle.fields.specs.declared.Headed.the-variants as headed
 use Rattle.rules.specs.Arrays.{Ready, endsOf}
@@ -43,6 +44,6 @@ pub record Examined (o : Order) (b : List ℕ) (n m : ℕ) (ends : List ℕ) : T
   pub passed : decide o ≡ none
 
 -- the same, where the counts are answered
-abbrev pub Left : Headed → Order → List ℕ → List ℕ → Type 0
-Left (headed.Counts n m) o b ends = Examined o b n m ends
-Left (headed.Refused why) o b ends = Unit {0}
+abbrev pub ExaminedIf : Headed → Order → List ℕ → List ℕ → Type 0
+ExaminedIf (headed.Size n m) o b ends = Examined o b n m ends
+ExaminedIf (headed.Refused why) o b ends = Unit {0}

@@ -5,20 +5,20 @@ use Prim.Native.Nat.{ℕ}
 
 -- ---- twenty bytes each; transaction, next, item and count are below 256 here, an amount comes as its four bytes
 
-abbrev pub headOf : ℕ → ℕ → List ℕ
-headOf count items = 0 ∷ 0 ∷ 0 ∷ 0 ∷ count ∷ 0 ∷ 0 ∷ 0 ∷ items ∷ 0 ∷ 0 ∷ 0 ∷ 0 ∷ 0 ∷ 0 ∷ 0 ∷ 0 ∷ 0 ∷ 0 ∷ 0 ∷ []
+abbrev pub headBytes : ℕ → ℕ → List ℕ
+headBytes count items = 0 ∷ 0 ∷ 0 ∷ 0 ∷ count ∷ 0 ∷ 0 ∷ 0 ∷ items ∷ 0 ∷ 0 ∷ 0 ∷ 0 ∷ 0 ∷ 0 ∷ 0 ∷ 0 ∷ 0 ∷ 0 ∷ 0 ∷ []
 
-abbrev pub readBy : ℕ → ℕ → ℕ → List ℕ
-readBy tx next item = 1 ∷ 0 ∷ tx ∷ 0 ∷ next ∷ 0 ∷ 0 ∷ 0 ∷ item ∷ 0 ∷ 0 ∷ 0 ∷ 0 ∷ 0 ∷ 0 ∷ 0 ∷ 0 ∷ 0 ∷ 0 ∷ 0 ∷ []
+abbrev pub readBytes : ℕ → ℕ → ℕ → List ℕ
+readBytes tx next item = 1 ∷ 0 ∷ tx ∷ 0 ∷ next ∷ 0 ∷ 0 ∷ 0 ∷ item ∷ 0 ∷ 0 ∷ 0 ∷ 0 ∷ 0 ∷ 0 ∷ 0 ∷ 0 ∷ 0 ∷ 0 ∷ 0 ∷ []
 
-abbrev pub writeBy : ℕ → ℕ → ℕ → List ℕ → List ℕ → List ℕ
-writeBy tx next item before after = 2 ∷ 0 ∷ tx ∷ 0 ∷ next ∷ 0 ∷ 0 ∷ 0 ∷ item ∷ 0 ∷ 0 ∷ 0 ∷ (before ++ after)
+abbrev pub writeBytes : ℕ → ℕ → ℕ → List ℕ → List ℕ → List ℕ
+writeBytes tx next item before after = 2 ∷ 0 ∷ tx ∷ 0 ∷ next ∷ 0 ∷ 0 ∷ 0 ∷ item ∷ 0 ∷ 0 ∷ 0 ∷ (before ++ after)
 
-abbrev pub commitBy : ℕ → ℕ → List ℕ
-commitBy tx next = 3 ∷ 0 ∷ tx ∷ 0 ∷ next ∷ 0 ∷ 0 ∷ 0 ∷ 0 ∷ 0 ∷ 0 ∷ 0 ∷ 0 ∷ 0 ∷ 0 ∷ 0 ∷ 0 ∷ 0 ∷ 0 ∷ 0 ∷ []
+abbrev pub commitBytes : ℕ → ℕ → List ℕ
+commitBytes tx next = 3 ∷ 0 ∷ tx ∷ 0 ∷ next ∷ 0 ∷ 0 ∷ 0 ∷ 0 ∷ 0 ∷ 0 ∷ 0 ∷ 0 ∷ 0 ∷ 0 ∷ 0 ∷ 0 ∷ 0 ∷ 0 ∷ 0 ∷ []
 
-abbrev pub abortBy : ℕ → ℕ → List ℕ
-abortBy tx next = 4 ∷ 0 ∷ tx ∷ 0 ∷ next ∷ 0 ∷ 0 ∷ 0 ∷ 0 ∷ 0 ∷ 0 ∷ 0 ∷ 0 ∷ 0 ∷ 0 ∷ 0 ∷ 0 ∷ 0 ∷ 0 ∷ 0 ∷ []
+abbrev pub abortBytes : ℕ → ℕ → List ℕ
+abortBytes tx next = 4 ∷ 0 ∷ tx ∷ 0 ∷ next ∷ 0 ∷ 0 ∷ 0 ∷ 0 ∷ 0 ∷ 0 ∷ 0 ∷ 0 ∷ 0 ∷ 0 ∷ 0 ∷ 0 ∷ 0 ∷ 0 ∷ 0 ∷ []
 
 -- the four bytes of an amount, lowest first
 abbrev pub p0 : List ℕ

@@ -21,7 +21,7 @@ use Rattle.format.specs.Bytes.{amount}
 use Rattle.model.specs.History.{Amount, sameAmount}
 use Rattle.model.proofs.Amounts.{same-refl, same-eq}
 use Rattle.journal.specs.Journal.{txIn, count, items}
-use Rattle.journal.specs.Refusals.{within, headRight, bodyRight, malformed, short, torn, badHead}
+use Rattle.journal.specs.Refusals.{within, headRight, bodyRight, malformed, short, truncated, badHead}
 use Rattle.journal.specs.Orders.{decide, openOrder}
 use Rattle.journal.specs.Calls.{Answer, refused, accepted, answered}
 use Rattle.journal.proofs.OrdersLaws.{orElse-none, decide-try, decide-turn, decide-over}
@@ -142,7 +142,7 @@ module _ (r : Record) where
 
 module _ {A : Type 0} (b : List ℕ) (a : A) where
   open-parts : decide (openOrder b)
-      ≡ orElse (cond (short b) (some (record { number = 1; place = 0 })) none) (orElse (cond (badHead b) (some (record { number = 2; place = 0 })) none) (cond (torn b) (some (record { number = 1; place = 0 })) none))
+      ≡ orElse (cond (short b) (some (record { number = 1; place = 0 })) none) (orElse (cond (badHead b) (some (record { number = 2; place = 0 })) none) (cond (truncated b) (some (record { number = 1; place = 0 })) none))
   unfolding openOrder
   open-parts = simp (decide-turn, decide-over, decide-try, orElse-none)
 
@@ -156,18 +156,18 @@ module _ {A : Type 0} (b : List ℕ) (a : A) where
     open-head h = rw (open-parts, le-ltb (length b) 20 l, h)
 
     module _ (h : headRight (recordAt b 0) ≡ true) where
-      open-torn : length b < 20 * (count b + 1) → refused 1 0 ≡ answered (decide (openOrder b)) a
-      unfolding short badHead torn
-      open-torn t = rw (open-parts, le-ltb (length b) 20 l, h, lt-ltb (length b) (20 * (count b + 1)) t)
+      open-truncated : length b < 20 * (count b + 1) → refused 1 0 ≡ answered (decide (openOrder b)) a
+      unfolding short badHead truncated
+      open-truncated t = rw (open-parts, le-ltb (length b) 20 l, h, lt-ltb (length b) (20 * (count b + 1)) t)
 
       open-right : 20 * (count b + 1) ≤ length b → accepted a ≡ answered (decide (openOrder b)) a
-      unfolding short badHead torn
+      unfolding short badHead truncated
       open-right t = rw (open-parts, le-ltb (length b) 20 l, h, le-ltb (length b) (20 * (count b + 1)) t)
 
   -- the same from a record r that was read, and a test h of it
-  pub read-torn : (r : Record) (h : Bool) → 20 ≤ length b → r ≡ recordAt b 0 → h ≡ headRight r → h ≡ true → length b < 20 * (r .next .0 + 1) → refused 1 0 ≡ answered (decide (openOrder b)) a
+  pub read-truncated : (r : Record) (h : Bool) → 20 ≤ length b → r ≡ recordAt b 0 → h ≡ headRight r → h ≡ true → length b < 20 * (r .next .0 + 1) → refused 1 0 ≡ answered (decide (openOrder b)) a
   unfolding count
-  read-torn r h l e f g t = open-torn l (rw (← e) (sym f ∙ g)) (rw e at t)
+  read-truncated r h l e f g t = open-truncated l (rw (← e) (sym f ∙ g)) (rw e at t)
 
   pub read-head : (r : Record) (h : Bool) → 20 ≤ length b → r ≡ recordAt b 0 → h ≡ headRight r → h ≡ false → refused 2 0 ≡ answered (decide (openOrder b)) a
   read-head r h l e f g = open-head l (rw (← e) (sym f ∙ g))

@@ -4,6 +4,7 @@ use mathlib.Core.Path.{_≡_}
 use mathlib.Core.List.{List}
 use Prim.Native.Nat.{ℕ, _+_, _*_, _≤_}
 use lib.ListN.{length}
+use Rattle.format.specs.Limits.{journalBytes, maxRecords, maxItems}
 use Rattle.journal.specs.Journal.{count, items}
 use Rattle.journal.specs.Reasons.{numberOf, placeOf}
 use Rattle.journal.specs.Calls.{Answer, refused, accepted}
@@ -19,14 +20,14 @@ abbrev pub sizeOf : List ℕ → Size
 sizeOf b = record { records = count b; items = items b }
 
 abbrev pub headerOf : Headed → Answer Size
-headerOf (headed.Counts n m) = accepted (record { records = n; items = m })
+headerOf (headed.Size n m) = accepted (record { records = n; items = m })
 headerOf (headed.Refused why) = refused (numberOf why) (placeOf why)
 
 -- a journal whose head is right: n records, m items
 pub record Opened (b : List ℕ) (n m : ℕ) : Type 0 where
   pub counted : n ≡ count b
   pub keys : m ≡ items b
-  pub long : 20 * n + 20 ≤ length b
-  pub few : n ≤ 3200
+  pub long : journalBytes n ≤ length b
+  pub few : n ≤ maxRecords
   pub some : 1 ≤ m
-  pub narrow : m ≤ 1024
+  pub narrow : m ≤ maxItems

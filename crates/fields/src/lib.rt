@@ -7,13 +7,18 @@ ghost use Rattle.journal.specs.Refusals.{headRight, malformed};
 ghost use Rattle.journal.specs.Orders.{decide, openOrder};
 ghost use Rattle.journal.specs.Calls.{answered};
 ghost use Rattle.fields.specs.Answers.{headerOf, sizeOf};
+use format::Lsn;
+use format::MAX_ITEMS;
+use format::MAX_RECORDS;
+use format::MAX_TRANSACTION;
+use format::RECORD_BYTES;
 use format::Record;
 use format::record_at;
 use journal::Reason;
 
 // The head's record count and item count.
 pub enum Headed {
-    Counts(u32, u32),
+    Size(u32, u32),
     Refused(Reason),
 }
 
@@ -55,13 +60,13 @@ fn head_right(r: Record) -> bool
     if r.transaction.0 != 0 {
         return false;
     }
-    if 3200 < r.next.0 {
+    if MAX_RECORDS < r.next.0 {
         return false;
     }
     if r.item.0 < 1 {
         return false;
     }
-    if 1024 < r.item.0 {
+    if MAX_ITEMS < r.item.0 {
         return false;
     }
     no_amounts(r)
@@ -71,17 +76,17 @@ fn head_right(r: Record) -> bool
 pub fn header(journal: &[u8]) -> Headed
     ensures { λ r. ⌜ headerOf r ≡ answered (decide (openOrder (now (journal .entry)))) (sizeOf (now (journal .entry))) ⌝ }
 {
-    if journal.len() < 20 {
+    if journal.len() < RECORD_BYTES {
         return Headed::Refused(Reason::Truncated);
     }
-    let r = record_at(journal, 0);
+    let r = record_at(journal, Lsn(0));
     if head_right(r) {
         let n = r.next.0;
-        let size = 20 * (n as usize + 1);
+        let size = RECORD_BYTES * (n as usize + 1);
         if journal.len() < size {
             Headed::Refused(Reason::Truncated)
         } else {
-            Headed::Counts(n, r.item.0)
+            Headed::Size(n, r.item.0)
         }
     } else {
         Headed::Refused(Reason::Header)
@@ -98,7 +103,7 @@ pub fn formed(items: u32, r: Record) -> bool
     if r.transaction.0 < 1 {
         return false;
     }
-    if 1024 < r.transaction.0 {
+    if MAX_TRANSACTION < r.transaction.0 {
         return false;
     }
     let within = r.item.0 < items;

@@ -1,11 +1,12 @@
 // The files of a day in a folder: they are loaded, and the report on them is printed (document 01, "The program's day").
 ghost use mathlib.Core.Path.{_≡_};
-ghost use Prim.Native.Nat.{_≤_};
 ghost use lib.ListN.{length};
 ghost use Rattle.files.specs.Loads.{Loads};
 use libc::STDERR_FILENO;
 use libc::STDOUT_FILENO;
+use report::FILE_BYTES;
 use report::Printed;
+use report::REPORT_BYTES;
 
 // How many bytes of a file were read; or it is there and cannot be read.
 pub enum Loaded {
@@ -65,15 +66,15 @@ fn load_from(folder: &[u8], name: &[u8], buf: &mut [u8]) -> Loaded
 }
 
 // Room for what is read of a file.
-fn buffer() -> [u8; 64020]
+fn buffer() -> [u8; FILE_BYTES]
     ensures { λ r. ⌜ 64020 ≡ length r ⌝ }
 {
-    [0; 64020]
+    [0; FILE_BYTES]
 }
 
 // Prints the report on these bytes; its buffer has always room.
 fn print(journal: &[u8], table: &[u8], bad: &[u8]) {
-    let mut out = [0u8; 100000];
+    let mut out = [0u8; REPORT_BYTES];
     let printed = report::report_files(journal, table, bad, &mut out);
     let Printed::Bytes(n) = printed else {
         return;
@@ -84,8 +85,8 @@ fn print(journal: &[u8], table: &[u8], bad: &[u8]) {
     os::fail(b"standard output");
 }
 
-// Prints the report on the three files of the folder. Where one is there and cannot be read, or the folder's name is too long, only a
-// message on standard error is printed.
+// Prints the report on the three files of the folder. Where one is there and cannot be read, or the folder's name is too long, only
+// a message on standard error is printed.
 pub fn print_report(folder: &[u8]) {
     let mut journal = buffer();
     let Loaded::Bytes(j) = load_from(folder, b"journal.bin", &mut journal) else {

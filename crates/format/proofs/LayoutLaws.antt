@@ -23,9 +23,9 @@ pub data Fit : List ℕ → List ℕ → Type 0 where
   field : {w v : ℕ} {ws vs : List ℕ} → v < 256 ^ w → Fit ws vs → Fit (w ∷ ws) (v ∷ vs)
 
 -- the bytes that the fields take
-abbrev pub total : List ℕ → ℕ
-total [] = 0
-total (w ∷ ws) = w + total ws
+abbrev pub width : List ℕ → ℕ
+width [] = 0
+width (w ∷ ws) = w + width ws
 
 pub parsed-printed : {ws vs : List ℕ} → Fit ws vs → (rest : List ℕ) → parsed ws (printed ws vs ++ rest) ≡ vs
 unfolding parsed printed
@@ -33,16 +33,16 @@ parsed-printed no-fields rest = refl
 parsed-printed (field {w} {v} {ws} {vs} h k) rest =
     rw (append-assoc (bytes w v) (printed ws vs) rest, take-at (bytes w v) (printed ws vs ++ rest) w (length-bytes w v), drop-at (bytes w v) (printed ws vs ++ rest) w (length-bytes w v), value-bytes w v h, parsed-printed k rest)
 
-pub printed-parsed : (ws : List ℕ) {b : List ℕ} → Bytes b → total ws ≤ length b → printed ws (parsed ws b) ≡ take (total ws) b
+pub printed-parsed : (ws : List ℕ) {b : List ℕ} → Bytes b → width ws ≤ length b → printed ws (parsed ws b) ≡ take (width ws) b
 unfolding parsed printed
 printed-parsed [] k h = refl
 printed-parsed (w ∷ ws) {b} k h =
     let e : length (take w b) ≡ w = length-take-le w b (omega arith) in
     let here : bytes w (value (take w b)) ≡ take w b = rw e at (bytes-value (Bytes-take k w)) in
-    rw (here, printed-parsed ws (Bytes-drop k w) (omega (arith, length-drop w b))) (sym (take-add w (total ws) b))
+    rw (here, printed-parsed ws (Bytes-drop k w) (omega (arith, length-drop w b))) (sym (take-add w (width ws) b))
 
 -- bytes behind the fields are not read
-pub parsed-take : (ws : List ℕ) (n : ℕ) (b : List ℕ) → total ws ≤ n → parsed ws (take n b) ≡ parsed ws b
+pub parsed-take : (ws : List ℕ) (n : ℕ) (b : List ℕ) → width ws ≤ n → parsed ws (take n b) ≡ parsed ws b
 unfolding parsed
 parsed-take [] n b h = refl
 parsed-take (w ∷ ws) n b h =
@@ -51,14 +51,14 @@ parsed-take (w ∷ ws) n b h =
     rw (take-take w n b (omega arith), rest, parsed-take ws (n - w) (drop w b) (omega arith))
 
 -- field k stands behind the fields before it
-pub parsed-at : (ws b : List ℕ) (k : ℕ) → k < length ws → getD (parsed ws b) k 0 ≡ value (take (getD ws k 0) (drop (total (take k ws)) b))
+pub parsed-at : (ws b : List ℕ) (k : ℕ) → k < length ws → getD (parsed ws b) k 0 ≡ value (take (getD ws k 0) (drop (width (take k ws)) b))
 unfolding parsed
 parsed-at [] b k h = absurd (omega arith)
 parsed-at (w ∷ ws) b zero h = refl
-parsed-at (w ∷ ws) b (suc k) h = parsed-at ws (drop w b) k (omega arith) ∙ ap (λ r. value (take (getD ws k 0) r)) (drop-drop (total (take k ws)) w b)
+parsed-at (w ∷ ws) b (suc k) h = parsed-at ws (drop w b) k (omega arith) ∙ ap (λ r. value (take (getD ws k 0) r)) (drop-drop (width (take k ws)) w b)
 
 pub parsed-bound : (ws : List ℕ) {b : List ℕ} → Bytes b → (k : ℕ) → k < length ws → getD (parsed ws b) k 0 < 256 ^ getD ws k 0
-parsed-bound ws {b} j k h = rw (parsed-at ws b k h) (value-take-bound (Bytes-drop j (total (take k ws))) (getD ws k 0))
+parsed-bound ws {b} j k h = rw (parsed-at ws b k h) (value-take-bound (Bytes-drop j (width (take k ws))) (getD ws k 0))
 
 pub printed-bytes : (ws vs : List ℕ) → Bytes (printed ws vs)
 unfolding printed
@@ -66,7 +66,7 @@ printed-bytes [] vs = none
 printed-bytes (w ∷ ws) [] = none
 printed-bytes (w ∷ ws) (v ∷ vs) = Bytes-append (bytes-bytes w v) (printed-bytes ws vs)
 
-pub length-printed : (ws vs : List ℕ) → length vs ≡ length ws → length (printed ws vs) ≡ total ws
+pub length-printed : (ws vs : List ℕ) → length vs ≡ length ws → length (printed ws vs) ≡ width ws
 unfolding printed
 length-printed [] vs e = refl
 length-printed (w ∷ ws) [] e = absurd (omega arith)
@@ -173,10 +173,10 @@ bytesOf-recordAt {b} i k h =
     sym (bytesOf-recordOf (Bytes-take (Bytes-drop k (20 * i)) 20) (length-take-le 20 (drop (20 * i) b) (omega (arith, length-drop (20 * i) b))))
 
 -- field k of record i
-field-at : (b : List ℕ) (i k : ℕ) → k < 7 → getD (parsed layout (take 20 (drop (20 * i) b))) k 0 ≡ value (take (getD layout k 0) (drop (20 * i + total (take k layout)) b))
+field-at : (b : List ℕ) (i k : ℕ) → k < 7 → getD (parsed layout (take 20 (drop (20 * i) b))) k 0 ≡ value (take (getD layout k 0) (drop (20 * i + width (take k layout)) b))
 field-at b i k h =
     ap (λ r. getD r k 0) (parsed-take layout 20 (drop (20 * i) b) (omega arith)) ∙ parsed-at layout (drop (20 * i) b) k h
-    ∙ ap (λ r. value (take (getD layout k 0) r)) (drop-drop (total (take k layout)) (20 * i) b)
+    ∙ ap (λ r. value (take (getD layout k 0) r)) (drop-drop (width (take k layout)) (20 * i) b)
 
 pub kind-at : (b : List ℕ) (i : ℕ) → recordAt b i .kind ≡ getD b (20 * i) 0
 unfolding recordAt recordOf

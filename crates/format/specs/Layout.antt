@@ -7,6 +7,7 @@ use mir.Syntax.{w32}
 use mir.Val.{SFits}
 use Rattle.format.specs.declared.Record.{Record}
 use Rattle.format.specs.Bytes.{value, bytes, amount, bits}
+use Rattle.format.specs.Limits.{recordBytes}
 
 -- bytes of each field: kind, reserved (byte 1), transaction, next, item, before, after
 abbrev pub layout : List ℕ
@@ -49,7 +50,7 @@ bytesOf r = printed layout (fields r)
 
 -- record i of a journal; record 0 is the head
 unfoldable pub recordAt : List ℕ → ℕ → Record
-recordAt b i = recordOf (take 20 (drop (20 * i) b))
+recordAt b i = recordOf (take recordBytes (drop (recordBytes * i) b))
 
 -- each field fits its bytes
 pub record Fitting (r : Record) : Type 0 where

@@ -5,8 +5,38 @@ ghost use lib.ListN.{length, take, drop};
 ghost use Rattle.lists.specs.Tables.{store};
 ghost use Rattle.format.specs.Bytes.{value, bytes, amount, bits};
 ghost use Rattle.format.specs.Layout.{recordAt, bytesOf};
+ghost use Rattle.format.specs.Limits.{recordBytes, journalBytes};
 
-// The three numberings of document 01: record numbers (log sequence numbers), sale numbers (transaction ids) and item numbers (keys).
+// Document 01's numbers: the bytes of a record, and the highest record count, item count and transaction number.
+pub const RECORD_BYTES: usize = 20;
+
+pub const MAX_RECORDS: u32 = 3200;
+
+pub const MAX_ITEMS: u32 = 1024;
+
+pub const MAX_TRANSACTION: u16 = 1024;
+
+// The number behind the last transaction's, where a loop over them ends.
+pub const TRANSACTIONS_END: u16 = MAX_TRANSACTION + 1;
+
+// The same where they bound an index.
+pub const LAST_RECORD: usize = MAX_RECORDS as usize;
+
+pub const LAST_TRANSACTION: usize = MAX_TRANSACTION as usize;
+
+// Entries of an array by record number, by item, by transaction number; the bytes of a status list and of the longest journal.
+pub const RECORD_SLOTS: usize = LAST_RECORD + 1;
+
+pub const ITEM_SLOTS: usize = MAX_ITEMS as usize;
+
+pub const TRANSACTION_SLOTS: usize = LAST_TRANSACTION + 1;
+
+pub const STATUS_BYTES: usize = TRANSACTION_SLOTS;
+
+pub const MAX_JOURNAL_BYTES: usize = RECORD_BYTES * RECORD_SLOTS;
+
+// The three numberings of document 01: record numbers (log sequence numbers), sale numbers (transaction ids) and item numbers
+// (keys).
 pub struct Lsn(pub u32);
 
 pub struct TransactionId(pub u16);
@@ -89,11 +119,11 @@ pub fn bits_of(x: i32) -> u32
 }
 
 // Record i of a journal.
-pub fn record_at(journal: &[u8], i: usize) -> Record
-    requires { ⌜ 20 * i + 20 ≤ length (now journal) ⌝ }
-    ensures { λ r. ⌜ r ≡ recordAt (now (journal .entry)) i ⌝ }
+pub fn record_at(journal: &[u8], i: Lsn) -> Record
+    requires { ⌜ journalBytes (i .0) ≤ length (now journal) ⌝ }
+    ensures { λ r. ⌜ r ≡ recordAt (now (journal .entry)) (i .0) ⌝ }
 {
-    let at = 20 * i;
+    let at = RECORD_BYTES * i.0 as usize;
     Record {
         kind: journal[at],
         reserved: journal[at + 1],
@@ -106,30 +136,33 @@ pub fn record_at(journal: &[u8], i: usize) -> Record
 }
 
 // The fields of record i, one at a time.
-pub fn kind_at(journal: &[u8], i: usize) -> u8
-    requires { ⌜ 20 * i + 20 ≤ length (now journal) ⌝ }
-    ensures { λ r. ⌜ r ≡ recordAt (now (journal .entry)) i .kind ⌝ }
+pub fn kind_at(journal: &[u8], i: Lsn) -> u8
+    requires { ⌜ journalBytes (i .0) ≤ length (now journal) ⌝ }
+    ensures { λ r. ⌜ r ≡ recordAt (now (journal .entry)) (i .0) .kind ⌝ }
 {
-    journal[20 * i]
+    let at = RECORD_BYTES * i.0 as usize;
+    journal[at]
 }
 
-pub fn transaction_at(journal: &[u8], i: usize) -> u16
-    requires { ⌜ 20 * i + 20 ≤ length (now journal) ⌝ }
-    ensures { λ r. ⌜ r ≡ recordAt (now (journal .entry)) i .transaction .0 ⌝ }
+pub fn transaction_at(journal: &[u8], i: Lsn) -> TransactionId
+    requires { ⌜ journalBytes (i .0) ≤ length (now journal) ⌝ }
+    ensures { λ r. ⌜ r .0 ≡ recordAt (now (journal .entry)) (i .0) .transaction .0 ⌝ }
 {
-    value2(journal, 20 * i + 2)
+    let at = RECORD_BYTES * i.0 as usize;
+    TransactionId(value2(journal, at + 2))
 }
 
-pub fn next_at(journal: &[u8], i: usize) -> u32
-    requires { ⌜ 20 * i + 20 ≤ length (now journal) ⌝ }
-    ensures { λ r. ⌜ r ≡ recordAt (now (journal .entry)) i .next .0 ⌝ }
+pub fn next_at(journal: &[u8], i: Lsn) -> Lsn
+    requires { ⌜ journalBytes (i .0) ≤ length (now journal) ⌝ }
+    ensures { λ r. ⌜ r .0 ≡ recordAt (now (journal .entry)) (i .0) .next .0 ⌝ }
 {
-    value4(journal, 20 * i + 4)
+    let at = RECORD_BYTES * i.0 as usize;
+    Lsn(value4(journal, at + 4))
 }
 
 // Writes the 20 bytes of a record.
 pub fn put_record(out: &mut [u8], r: Record)
-    requires { ⌜ length (now out) ≡ 20 ⌝ }
+    requires { ⌜ length (now out) ≡ recordBytes ⌝ }
     ensures { λ _. ⌜ now (out .exit) ≡ bytesOf r ⌝ }
 {
     let before = bits_of(r.before);

@@ -20,9 +20,9 @@ refuses : (b : List ℕ) (n : ℕ) {r : Refusal} → decide (startOrder b n) ≡
 unfolding start
 refuses b n e = (rw e, rw e)
 
-pub truncated : (b : List ℕ) (n : ℕ) → length b < 20 → (refused 1 0 ≡ start b n .answer) × (b ≡ start b n .journal)
+pub start-truncated : (b : List ℕ) (n : ℕ) → length b < 20 → (refused 1 0 ≡ start b n .answer) × (b ≡ start b n .journal)
 unfolding startOrder short
-truncated b n h = refuses b n (decide-turn-some _ _ (decide-yes 1 0 (lt-ltb (length b) 20 h)))
+start-truncated b n h = refuses b n (decide-turn-some _ _ (decide-yes 1 0 (lt-ltb (length b) 20 h)))
 
 past-short : (b : List ℕ) (n : ℕ) → 20 ≤ length b → decide (startOrder b n) ≡ decide (try 2 0 (badItems n))
 unfolding startOrder short

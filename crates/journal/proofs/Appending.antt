@@ -22,18 +22,18 @@ use Rattle.format.proofs.BytesLaws.{Bytes-store, length-bytes, bytes-bytes}
 use Rattle.format.proofs.LayoutLaws.{recordAt-fitting, length-bytesOf, bytesOf-bytes}
 use Rattle.model.specs.History.{Op, History, Amount, Tag, tagOf, beforeOf, afterOf, tagIn, ofTx, applied, nextIn, writeTo, initial}
 use Rattle.model.proofs.Extension.{latest-tag, next-last, next-extended, settled-extended, matched-extended, Befores, applied-all, initial-extended}
-use Rattle.journal.specs.Inputs.{lent}
+use Rattle.journal.specs.Inputs.{inputsOf}
 use Rattle.journal.specs.Journal.{count, items, txIn, opOf, records, history, whole, amountAt}
 use Rattle.journal.specs.Copy.{headWith, linkedTo}
-use Rattle.journal.specs.Refusals.{Tally, tallied, within, short, torn, badItems, malformed, mismatched, noRoom, wrongTally}
-use Rattle.journal.specs.Orders.{tallyOrder, newOrder, startOrder, appendOrder}
-use Rattle.journal.specs.Calls.{link, extended, accepted, tableAfter, raised, start, openingAt, openingTable}
+use Rattle.journal.specs.Refusals.{RecordCounts, countsByKind, within, short, truncated, badItems, malformed, mismatched, noRoom, wrongCounts}
+use Rattle.journal.specs.Orders.{countsOrder, newOrder, startOrder, appendOrder}
+use Rattle.journal.specs.Calls.{link, extended, accepted, appliedTable, raised, start, openingAt, openingTable}
 use Rattle.journal.proofs.Clear.{Clear, clear-turns, turns-clear, clear-try, try-clear, clear-decide}
 use Rattle.journal.proofs.Encoded.{headWith-fitting}
 use Rattle.journal.proofs.Checked.{new-all, Follows, RecordRight, Sound, Checks, follows-clear, clear-follows, checks-clear, clear-checks}
 use Rattle.journal.proofs.Records.{by-kind, txOf-opOf, tagOf-opOf, opOf-linkedTo, length-history, history-zero, history-suc}
 use Rattle.journal.proofs.Stored.{stored-fits, recordAt-stored, recordAt-stored-other, linked-fits, recordAt-linked, recordAt-linked-other, length-link, link-bytes, link-behind, recordAt-link, recordAt-link-head}
-use Rattle.journal.proofs.Unrefused.{room, Headed, head-headed, headed-head, table-length, length-table, formed-cases, malformed-linkedTo, opOf-read, opOf-write, opOf-commit, opOf-abort, chained-next, next-chained, settled-amount, amount-settled, history-numbered, record-upto}
+use Rattle.journal.proofs.Unrefused.{room, HeadFields, head-headFields, headFields-head, table-length, length-table, formed-cases, malformed-linkedTo, opOf-read, opOf-write, opOf-commit, opOf-abort, chained-next, next-chained, settled-amount, amount-settled, history-numbered, record-upto}
 
 -- ---- a started journal
 
@@ -85,15 +85,15 @@ module _ (b : List ℕ) (m : ℕ) (c : Clear (startOrder b m)) where
   unfolding whole
   whole-started = ap (history (start b m .journal)) count-started ∙ history-zero (start b m .journal)
 
-  pub checks-started : (t : List Amount) → length t ≡ m → Checks (lent (start b m .journal) t)
-  unfolding short torn
+  pub checks-started : (t : List Amount) → length t ≡ m → Checks (inputsOf (start b m .journal) t)
+  unfolding short truncated
   checks-started t e =
       let j : List ℕ = start b m .journal in
       record {
         sound =
             record {
               long = le-ltb (length j) 20 (omega (arith, length-started, started-long));
-              head = headed-head j (rw started-head (record { kind = refl; reserved = refl; tx = refl; count = omega arith; items = started-items; before = refl; after = refl }));
+              head = headFields-head j (rw started-head (record { kind = refl; reserved = refl; tx = refl; count = omega arith; items = started-items; before = refl; after = refl }));
               full = le-ltb (length j) (20 * (count j + 1)) (omega (arith, length-started, started-long, count-started));
               right = λ i h. absurd (omega (arith, count-started));
             };
@@ -104,10 +104,10 @@ module _ (b : List ℕ) (m : ℕ) (c : Clear (startOrder b m)) where
 -- ---- the journal with one record more
 
 -- the sale's last record until now; 0 if it has none
-unfoldable pub lastOf : List ℕ → ℕ → ℕ
+unfoldable lastOf : List ℕ → ℕ → ℕ
 lastOf b s = tagIn (latest (ofTx s) (whole b))
 
-pub lastOf-bound : (b : List ℕ) (s : ℕ) → lastOf b s ≤ count b
+lastOf-bound : (b : List ℕ) (s : ℕ) → lastOf b s ≤ count b
 unfolding lastOf whole
 lastOf-bound b s = omega (arith, latest-tag (ofTx s) (history b (count b)) (history-numbered b (count b)), length-history b (count b))
 
@@ -158,7 +158,7 @@ module _ (b : List ℕ) (r : Record) (long : 20 * (count b + 1) + 20 ≤ length 
       ∙ drop-store (20 * suc (count b)) (bytesOf r) b (stored-fits (suc (count b)) r b (omega arith)) (20 * (count b + 2)) (omega (arith, length-bytesOf r))
 
   module _ (small : count b < 3200) (fit : Fitting r) where
-    pub head-extended : recordAt (extended b r) 0 ≡ linkedTo (suc (count b)) (recordAt b 0)
+    head-extended : recordAt (extended b r) 0 ≡ linkedTo (suc (count b)) (recordAt b 0)
     unfolding added chained
     head-extended =
         ap (λ c. recordAt c 0) extended-is ∙ recordAt-linked 0 (suc (count b)) chained chained-long (omega arith)
@@ -169,7 +169,7 @@ module _ (b : List ℕ) (r : Record) (long : 20 * (count b + 1) + 20 ≤ length 
     recordAt-counted i =
         ap (λ c. recordAt c (suc i)) extended-is ∙ recordAt-linked-other 0 (suc (count b)) chained chained-long (suc i) (ne-eqb (suc i) 0 (λ e. omega arith))
 
-    pub recordAt-new : recordAt (extended b r) (suc (count b)) ≡ r
+    recordAt-new : recordAt (extended b r) (suc (count b)) ≡ r
     unfolding added chained
     recordAt-new =
         let d : eqb (suc (count b)) (lastOf b (txIn r)) ≡ false =
@@ -177,7 +177,7 @@ module _ (b : List ℕ) (r : Record) (long : 20 * (count b + 1) + 20 ≤ length 
         recordAt-counted (count b) ∙ recordAt-link _ _ added added-long (omega arith) (count b)
         ∙ rw d (recordAt-stored (suc (count b)) r b (omega arith) fit)
 
-    pub recordAt-old : (i : ℕ) → i < count b
+    recordAt-old : (i : ℕ) → i < count b
         → recordAt (extended b r) (suc i) ≡ cond (eqb (suc i) (lastOf b (txIn r))) (linkedTo (suc (count b)) (recordAt b (suc i))) (recordAt b (suc i))
     unfolding added chained
     recordAt-old i h =
@@ -185,7 +185,7 @@ module _ (b : List ℕ) (r : Record) (long : 20 * (count b + 1) + 20 ≤ length 
         recordAt-stored-other (suc (count b)) r b (omega arith) (suc i) (ne-eqb (suc i) (suc (count b)) (λ e. omega arith)) in
         recordAt-counted i ∙ recordAt-link _ _ added added-long (omega arith) i ∙ rw e
 
-    pub count-extended : count (extended b r) ≡ suc (count b)
+    count-extended : count (extended b r) ≡ suc (count b)
     unfolding count
     count-extended = ap (λ q. q .next .0) head-extended
 
@@ -200,7 +200,7 @@ module _ (b : List ℕ) (r : Record) (long : 20 * (count b + 1) + 20 ≤ length 
         ap f (recordAt-old i l)
         ∙ byCases (eqb (suc i) (lastOf b (txIn r))) (λ e. rw e (h (recordAt b (suc i)))) (λ e. rw e)
 
-    pub history-extended : (n : ℕ) → n ≤ count b → history (extended b r) n ≡ history b n
+    history-extended : (n : ℕ) → n ≤ count b → history (extended b r) n ≡ history b n
     unfolding history
     history-extended zero h = refl
     history-extended (suc n) h =
@@ -239,48 +239,50 @@ clear-enters b r k =
     let (c4, (access, (c14, end))) = turns-clear _ k in
     record { formed = try-clear 4 _ _ c4; follows = clear-follows _ _ _ access; room = try-clear 14 _ _ c14 }
 
-pub append-clear : (b : List ℕ) (t : List Amount) (c : Tally) (r : Record) → Checks (lent b t) → wrongTally b c ≡ false → Enters b r → Clear (appendOrder (lent b t) c r)
-unfolding appendOrder tallyOrder
+pub append-clear : (b : List ℕ) (t : List Amount) (c : RecordCounts) (r : Record) → Checks (inputsOf b t) → wrongCounts b c ≡ false → Enters b r → Clear (appendOrder (inputsOf b t) c r)
+unfolding appendOrder countsOrder
 append-clear b t c r k w e = clear-turns _ (checks-clear b t k, (clear-try 15 _ _ w, (enters-clear b r e, tt)))
 
-pub clear-appended : (b : List ℕ) (t : List Amount) (c : Tally) (r : Record) → Clear (appendOrder (lent b t) c r) → Checks (lent b t) × (wrongTally b c ≡ false) × Enters b r
-unfolding appendOrder tallyOrder
+pub clear-appended : (b : List ℕ) (t : List Amount) (c : RecordCounts) (r : Record) → Clear (appendOrder (inputsOf b t) c r) → Checks (inputsOf b t) × (wrongCounts b c ≡ false) × Enters b r
+unfolding appendOrder countsOrder
 clear-appended b t c r k =
     let (check, (c15, (new, end))) = turns-clear _ k in
     (clear-checks b t check, try-clear 15 _ _ c15, clear-enters b r new)
 
 -- ---- the tally and the tables
 
--- one of the four counts rises
-pub tallied-extended : (m : ℕ) (i : Tag) (r : Record) (p : History) → malformed m r ≡ false → tallied (opOf i r ∷ p) ≡ raised (r .kind) (tallied p)
-unfolding tallied raised
-tallied-extended m i r p e =
-    formed-cases m r e
-    (λ k l z. rw (opOf-read i r k, k))
-    (λ k l. rw (opOf-write i r k, k))
-    (λ k z. rw (opOf-commit i r k, k))
-    (λ k z. rw (opOf-abort i r k, k))
+-- one of the four counts rises, by the kind; a record of another kind counts nowhere
+pub countsByKind-extended : (i : Tag) (r : Record) (p : History) → countsByKind (opOf i r ∷ p) ≡ raised (r .kind) (countsByKind p)
+unfolding countsByKind raised opOf
+countsByKind-extended i r p =
+    byCases (eqb (r .kind) 1) (λ e. rw (eqb-true (r .kind) 1 e))
+    (λ n1.
+    byCases (eqb (r .kind) 2) (λ e. rw (eqb-true (r .kind) 2 e))
+    (λ n2.
+    byCases (eqb (r .kind) 3) (λ e. rw (eqb-true (r .kind) 3 e))
+    (λ n3.
+    byCases (eqb (r .kind) 4) (λ e. rw (eqb-true (r .kind) 4 e)) (λ n4. rw (n1, n2, n3, n4)))))
 
-pub length-tableAfter : (p : History) (o : Op) (t : List Amount) → length (tableAfter p o t) ≡ length t
-unfolding tableAfter
-length-tableAfter p o t = length-tabulate _ 0 (length t)
+pub length-appliedTable : (p : History) (o : Op) (t : List Amount) → length (appliedTable p o t) ≡ length t
+unfolding appliedTable
+length-appliedTable p o t = length-tabulate _ 0 (length t)
 
-pub amount-tableAfter : (p : History) (o : Op) (t : List Amount) (x : ℕ) → x < length t → amountAt (tableAfter p o t) x ≡ applied o p x (amountAt t x)
-unfolding tableAfter
-amount-tableAfter p o t x h =
+pub amount-appliedTable : (p : History) (o : Op) (t : List Amount) (x : ℕ) → x < length t → amountAt (appliedTable p o t) x ≡ applied o p x (amountAt t x)
+unfolding appliedTable
+amount-appliedTable p o t x h =
     getD-tabulate (λ x. applied o p x (amountAt t x)) 0 (length t) x (pos 0) h ∙ ap (λ x. applied o p x (amountAt t x)) (omega arith)
 
-pub length-openingTable : (b : List ℕ) (t : List Amount) → length (openingTable (lent b t)) ≡ length t
+pub length-openingTable : (b : List ℕ) (t : List Amount) → length (openingTable (inputsOf b t)) ≡ length t
 unfolding openingTable
-length-openingTable b t = length-tabulate (openingAt (lent b t)) 0 (length t)
+length-openingTable b t = length-tabulate (openingAt (inputsOf b t)) 0 (length t)
 
-pub amount-openingTable : (b : List ℕ) (t : List Amount) (x : ℕ) → x < length t → amountAt (openingTable (lent b t)) x ≡ openingAt (lent b t) x
+pub amount-openingTable : (b : List ℕ) (t : List Amount) (x : ℕ) → x < length t → amountAt (openingTable (inputsOf b t)) x ≡ openingAt (inputsOf b t) x
 unfolding openingTable
-amount-openingTable b t x h = getD-tabulate (openingAt (lent b t)) 0 (length t) x (pos 0) h ∙ ap (openingAt (lent b t)) (omega arith)
+amount-openingTable b t x h = getD-tabulate (openingAt (inputsOf b t)) 0 (length t) x (pos 0) h ∙ ap (openingAt (inputsOf b t)) (omega arith)
 
 -- ---- the journal with one record more passes
 
-module _ (b : List ℕ) (t : List Amount) (r : Record) (k : Checks (lent b t)) (e : Enters b r) (fit : Fitting r) (last : r .next .0 ≡ 0)
+module _ (b : List ℕ) (t : List Amount) (r : Record) (k : Checks (inputsOf b t)) (e : Enters b r) (fit : Fitting r) (last : r .next .0 ≡ 0)
     (before : r .kind ≡ 2 → r .before ≡ amountAt t (r .item .0)) where
   small : count b < 3200
   small = room b (e .room) .0
@@ -346,20 +348,20 @@ module _ (b : List ℕ) (t : List Amount) (r : Record) (k : Checks (lent b t)) (
         matched = rw (n, p) matched-new;
       }
 
-  head-right : Headed (recordAt (extended b r) 0)
+  head-right : HeadFields (recordAt (extended b r) 0)
   head-right =
-      let h = head-headed b (k .sound .head) in
+      let h = head-headFields b (k .sound .head) in
       rw (head-extended b r long small fit)
       (record { kind = h .kind; reserved = h .reserved; tx = h .tx; count = small; items = h .items; before = h .before; after = h .after })
 
-  pub sound-extended : Sound (extended b r)
-  unfolding short torn
+  sound-extended : Sound (extended b r)
+  unfolding short truncated
   sound-extended =
       let l = length-extended b r long in
       let c = count-extended b r long small fit in
       record {
         long = le-ltb (length (extended b r)) 20 (omega (arith, l, long));
-        head = headed-head (extended b r) head-right;
+        head = headFields-head (extended b r) head-right;
         full = le-ltb (length (extended b r)) (20 * (count (extended b r) + 1)) (omega (arith, l, long, c));
         right = λ i h.
             byCases (eqb i (count b))
@@ -367,18 +369,18 @@ module _ (b : List ℕ) (t : List Amount) (r : Record) (k : Checks (lent b t)) (
             (λ q. let d = eqb-false i (count b) q in right-old i (omega arith));
       }
 
-  pub checks-extended : Checks (lent (extended b r) (tableAfter (whole b) (opOf (suc (count b)) r) t))
+  pub checks-extended : Checks (inputsOf (extended b r) (appliedTable (whole b) (opOf (suc (count b)) r) t))
   checks-extended =
       let p : History = whole b in
       let o : Op = opOf (suc (count b)) r in
       let m : length t ≡ items b = table-length b t (k .table) in
       record {
         sound = sound-extended;
-        table = length-table _ _ (length-tableAfter p o t ∙ m ∙ sym (items-extended b r long small fit));
+        table = length-table _ _ (length-appliedTable p o t ∙ m ∙ sym (items-extended b r long small fit));
         settled = λ x h.
             let l : x < items b = rw (items-extended b r long small fit) at h in
             amount-settled _ _ x
-            (rw (whole-extended b r long small fit, amount-tableAfter p o t x (omega arith))
+            (rw (whole-extended b r long small fit, amount-appliedTable p o t x (omega arith))
             (settled-extended (amountAt t x) o p x (settled-amount b t x (k .settled x l))));
       }
 
@@ -391,15 +393,15 @@ module _ (b : List ℕ) (t : List Amount) (r : Record) (k : Checks (lent b t)) (
       (λ a z. rw (opOf-abort (suc (count b)) r a) (λ h. clash h refl))
 
   -- the opening table stays
-  pub opening-extended : openingTable (lent (extended b r) (tableAfter (whole b) (opOf (suc (count b)) r) t)) ≡ openingTable (lent b t)
+  pub opening-extended : openingTable (inputsOf (extended b r) (appliedTable (whole b) (opOf (suc (count b)) r) t)) ≡ openingTable (inputsOf b t)
   unfolding openingTable openingAt
   opening-extended =
       let p : History = whole b in
       let o : Op = opOf (suc (count b)) r in
-      ap (λ n. tabulate (λ x. initial (amountAt (tableAfter p o t) x) (whole (extended b r)) x) 0 n) (length-tableAfter p o t)
+      ap (λ n. tabulate (λ x. initial (amountAt (appliedTable p o t) x) (whole (extended b r)) x) 0 n) (length-appliedTable p o t)
       ∙ tabulate-ext _ _ 0 0 (length t)
       (λ x h. let q : 0 + x ≡ x = omega arith in
-      rw (q, whole-extended b r long small fit, amount-tableAfter p o t x h) (initial-extended (amountAt t x) o p x (before-new x)))
+      rw (q, whole-extended b r long small fit, amount-appliedTable p o t x h) (initial-extended (amountAt t x) o p x (before-new x)))
 
 -- ---- amounts stay signed 32-bit numbers
 
@@ -414,13 +416,13 @@ history-befores {b} k (suc n) = (
   λ d h. by-kind (λ o. SFits w32 (beforeOf o d)) (suc n) (recordAt b (suc n)) h (recordAt-fitting k (suc n) .before) h h h,
 )
 
-pub fits-tableAfter : (b : List ℕ) (t : List Amount) (i : Tag) (r : Record) → Bytes b → Fitting r → ((x : ℕ) → SFits w32 (amountAt t x))
-    → (x : ℕ) → SFits w32 (amountAt (tableAfter (whole b) (opOf i r) t) x)
+pub fits-appliedTable : (b : List ℕ) (t : List Amount) (i : Tag) (r : Record) → Bytes b → Fitting r → ((x : ℕ) → SFits w32 (amountAt t x))
+    → (x : ℕ) → SFits w32 (amountAt (appliedTable (whole b) (opOf i r) t) x)
 unfolding whole
-fits-tableAfter b t i r k f h x =
+fits-appliedTable b t i r k f h x =
     byCases (ltb x (length t))
-    (λ l. rw (amount-tableAfter (history b (count b)) (opOf i r) t x (ltb-true x (length t) l))
+    (λ l. rw (amount-appliedTable (history b (count b)) (opOf i r) t x (ltb-true x (length t) l))
     (applied-all (SFits w32) (opOf i r) (history b (count b)) x (amountAt t x) (history-befores k (count b))
     (λ d g. by-kind (λ o. SFits w32 (afterOf o d)) i r g (f .after) g g g) (h x)))
     (λ l. let g = ltb-false x (length t) l in
-    rw (List·getD-eq-default (tableAfter (history b (count b)) (opOf i r) t) (pos 0) {n = x} (omega (arith, length-tableAfter (history b (count b)) (opOf i r) t))) zero-fits)
+    rw (List·getD-eq-default (appliedTable (history b (count b)) (opOf i r) t) (pos 0) {n = x} (omega (arith, length-appliedTable (history b (count b)) (opOf i r) t))) zero-fits)

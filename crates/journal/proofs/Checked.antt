@@ -10,20 +10,20 @@ use native.Mathlib.Omega.{arith}
 use Rattle.format.specs.declared.Record.{Record}
 use Rattle.format.specs.Layout.{recordAt}
 use Rattle.model.specs.History.{Op, History, Amount}
-use Rattle.journal.specs.Inputs.{Inputs, lent}
+use Rattle.journal.specs.Inputs.{Inputs, inputsOf}
 use Rattle.journal.specs.Journal.{count, items, opOf, history, whole}
-use Rattle.journal.specs.Refusals.{short, torn, badHead, wrongTable, malformed, unchained, closed, crossed, blind, mismatched, unsettled, noRoom}
+use Rattle.journal.specs.Refusals.{short, truncated, badHead, wrongTable, malformed, wrongNext, terminated, conflicting, blind, mismatched, unsettled, noRoom}
 use Rattle.journal.specs.Orders.{Trial, trial, openOrder, tableOrder, accessOrder, ruleOrder, recordOrder, recordsOrder, settledOrder, newOrder, soundOrder, checkOrder, decide}
 use Rattle.journal.proofs.Clear.{All, all-turns, all-try, Clear, clear-turns, turns-clear, clear-try, try-clear, clear-each, each-clear, clear-tried, tried-clear, decide-clear}
 
 -- ---- each condition of a stage
 
 module _ (P : Trial → Type 0) where
-  pub open-all : (b : List ℕ) → P (trial 1 0 (short b)) → P (trial 2 0 (badHead b)) → P (trial 1 0 (torn b)) → All P (openOrder b)
+  pub open-all : (b : List ℕ) → P (trial 1 0 (short b)) → P (trial 2 0 (badHead b)) → P (trial 1 0 (truncated b)) → All P (openOrder b)
   unfolding openOrder
   open-all b c1 c2 whole = all-turns P _ (all-try P 1 0 _ c1, (all-try P 2 0 _ c2, (all-try P 1 0 _ whole, tt)))
 
-  pub access-all : (p : History) (i : ℕ) (o : Op) → P (trial 6 i (closed p o)) → P (trial 7 i (crossed p o)) → P (trial 8 i (blind p o)) → All P (accessOrder p i o)
+  pub access-all : (p : History) (i : ℕ) (o : Op) → P (trial 6 i (terminated p o)) → P (trial 7 i (conflicting p o)) → P (trial 8 i (blind p o)) → All P (accessOrder p i o)
   unfolding accessOrder
   access-all p i o c6 c7 c8 = all-turns P _ (all-try P 6 i _ c6, (all-try P 7 i _ c7, (all-try P 8 i _ c8, tt)))
 
@@ -31,7 +31,7 @@ module _ (P : Trial → Type 0) where
   unfolding ruleOrder
   rule-all p i o access c9 = all-turns P _ (access, (all-try P 9 i _ c9, tt))
 
-  pub record-all : (b : List ℕ) (i : ℕ) → P (trial 4 i (malformed (items b) (recordAt b i))) → P (trial 5 i (unchained b i))
+  pub record-all : (b : List ℕ) (i : ℕ) → P (trial 4 i (malformed (items b) (recordAt b i))) → P (trial 5 i (wrongNext b i))
       → All P (ruleOrder (history b (pred i)) i (opOf i (recordAt b i))) → All P (recordOrder b i)
   unfolding recordOrder
   record-all b i c4 c5 rules = all-turns P _ (all-try P 4 i _ c4, (all-try P 5 i _ c5, (rules, tt)))
@@ -45,14 +45,14 @@ module _ (P : Trial → Type 0) where
 
 -- no refusal of 6 to 8 for the operation o after the history p
 pub record Follows (p : History) (o : Op) : Type 0 where
-  pub unclosed : closed p o ≡ false
-  pub uncrossed : crossed p o ≡ false
-  pub sighted : blind p o ≡ false
+  pub notTerminated : terminated p o ≡ false
+  pub notConflicting : conflicting p o ≡ false
+  pub notBlind : blind p o ≡ false
 
 -- no refusal of 4 to 9 at record i, after the history p
 pub record RecordRight (b : List ℕ) (i : ℕ) (p : History) : Type 0 where
   pub formed : malformed (items b) (recordAt b i) ≡ false
-  pub chained : unchained b i ≡ false
+  pub chained : wrongNext b i ≡ false
   pub follows : Follows p (opOf i (recordAt b i))
   pub matched : mismatched p (opOf i (recordAt b i)) ≡ false
 
@@ -60,7 +60,7 @@ pub record RecordRight (b : List ℕ) (i : ℕ) (p : History) : Type 0 where
 pub record Sound (b : List ℕ) : Type 0 where
   pub long : short b ≡ false
   pub head : badHead b ≡ false
-  pub full : torn b ≡ false
+  pub full : truncated b ≡ false
   pub right : (i : ℕ) → i < count b → RecordRight b (suc i) (history b i)
 
 -- no refusal of check
@@ -72,15 +72,15 @@ pub record Checks (d : Inputs) : Type 0 where
 -- ---- 6 to 8, and the record
 
 pub follows-clear : (p : History) (i : ℕ) (o : Op) → Follows p o → Clear (accessOrder p i o)
-follows-clear p i o f = access-all _ p i o (f .unclosed) (f .uncrossed) (f .sighted)
+follows-clear p i o f = access-all _ p i o (f .notTerminated) (f .notConflicting) (f .notBlind)
 
 pub clear-follows : (p : History) (i : ℕ) (o : Op) → Clear (accessOrder p i o) → Follows p o
 unfolding accessOrder
 clear-follows p i o k =
     let (c6, (c7, (c8, end))) = turns-clear _ k in
-    record { unclosed = try-clear 6 _ _ c6; uncrossed = try-clear 7 _ _ c7; sighted = try-clear 8 _ _ c8 }
+    record { notTerminated = try-clear 6 _ _ c6; notConflicting = try-clear 7 _ _ c7; notBlind = try-clear 8 _ _ c8 }
 
-pub record-clear : (b : List ℕ) (i : ℕ) → RecordRight b (suc i) (history b i) → Clear (recordOrder b (suc i))
+record-clear : (b : List ℕ) (i : ℕ) → RecordRight b (suc i) (history b i) → Clear (recordOrder b (suc i))
 record-clear b i r = record-all _ b (suc i) (r .formed) (r .chained) (rule-all _ _ _ _ (follows-clear _ _ _ (r .follows)) (r .matched))
 
 pub clear-record : (b : List ℕ) (i : ℕ) → Clear (recordOrder b (suc i)) → RecordRight b (suc i) (history b i)
@@ -100,10 +100,10 @@ records-clear b h = clear-each (recordOrder b) 1 (count b) (λ k l m. at k l m)
 
 -- ---- check
 
-pub open-clear : (b : List ℕ) → short b ≡ false → badHead b ≡ false → torn b ≡ false → Clear (openOrder b)
+pub open-clear : (b : List ℕ) → short b ≡ false → badHead b ≡ false → truncated b ≡ false → Clear (openOrder b)
 open-clear b l h w = open-all _ b l h w
 
-pub clear-opens : (b : List ℕ) → Clear (openOrder b) → (short b ≡ false) × (badHead b ≡ false) × (torn b ≡ false)
+pub clear-opens : (b : List ℕ) → Clear (openOrder b) → (short b ≡ false) × (badHead b ≡ false) × (truncated b ≡ false)
 unfolding openOrder
 clear-opens b k = let (c1, (c2, (whole, end))) = turns-clear _ k in (try-clear 1 _ _ c1, try-clear 2 _ _ c2, try-clear 1 _ _ whole)
 
@@ -122,7 +122,7 @@ pub decide-sound : (b : List ℕ) → decide (soundOrder b) ≡ none → Sound b
 unfolding soundOrder
 decide-sound b e = let (opens, (records, end)) = turns-clear _ (decide-clear _ e) in clear-sound b opens records
 
-pub checks-clear : (b : List ℕ) (t : List Amount) → Checks (lent b t) → Clear (checkOrder (lent b t))
+pub checks-clear : (b : List ℕ) (t : List Amount) → Checks (inputsOf b t) → Clear (checkOrder (inputsOf b t))
 unfolding checkOrder tableOrder settledOrder
 checks-clear b t k =
     clear-turns _ (
@@ -136,7 +136,7 @@ checks-clear b t k =
       ),
     )
 
-pub clear-checks : (b : List ℕ) (t : List Amount) → Clear (checkOrder (lent b t)) → Checks (lent b t)
+pub clear-checks : (b : List ℕ) (t : List Amount) → Clear (checkOrder (inputsOf b t)) → Checks (inputsOf b t)
 unfolding checkOrder tableOrder settledOrder
 clear-checks b t k =
     let (opens, (c3, (records, (c10, end)))) = turns-clear _ k in

@@ -27,12 +27,12 @@ module _ (P : Trial → Type 0) where
   all-left [] b c = empty
   all-left (t ∷ a) b (also e c) = also e (all-left a b c)
 
-  pub all-right : (a b : Order) → All P (a ++ b) → All P b
+  all-right : (a b : Order) → All P (a ++ b) → All P b
   all-right [] b c = c
   all-right (t ∷ a) b (also e c) = all-right a b c
 
   -- the same of each stage, as one tuple in the order of the stages
-  abbrev pub Turns : List Order → Type 0
+  abbrev Turns : List Order → Type 0
   Turns [] = Unit {0}
   Turns (o ∷ os) = All P o × Turns os
 
@@ -41,7 +41,7 @@ module _ (P : Trial → Type 0) where
   all-turns [] c = empty
   all-turns (o ∷ os) (c, cs) = all-append c (all-turns os cs)
 
-  pub turns-all : (os : List Order) → All P (inTurn os) → Turns os
+  turns-all : (os : List Order) → All P (inTurn os) → Turns os
   unfolding inTurn
   turns-all [] c = tt
   turns-all (o ∷ os) c = (all-left o (inTurn os) c, turns-all os (all-right o (inTurn os) c))
@@ -55,7 +55,7 @@ module _ (P : Trial → Type 0) where
   all-each f i zero h = empty
   all-each f i (suc n) h = all-append (h i (omega arith) (omega arith)) (all-each f (suc i) n (λ k a b. h k (omega arith) (omega arith)))
 
-  pub each-all : (f : ℕ → Order) (i n : ℕ) → All P (each f i n) → (k : ℕ) → i ≤ k → k < i + n → All P (f k)
+  each-all : (f : ℕ → Order) (i n : ℕ) → All P (each f i n) → (k : ℕ) → i ≤ k → k < i + n → All P (f k)
   unfolding each
   each-all f i zero c k a b = absurd (omega arith)
   each-all f i (suc n) c k a b =

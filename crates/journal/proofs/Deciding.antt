@@ -18,8 +18,8 @@ use Rattle.journal.proofs.OrdersLaws.{decide-over, decide-turn-none, de
 use Rattle.journal.proofs.Clear.{All, all-append, all-more, all-try, all-tried, decide-all, decide-clear, try-clear}
 
 -- the number is one of these
-abbrev pub Numbered : List ℕ → Trial → Type 0
-Numbered ns t = member (t .refusal .number) ns ≡ true
+abbrev pub NumberIn : List ℕ → Trial → Type 0
+NumberIn ns t = member (t .refusal .number) ns ≡ true
 
 -- ---- the refusal n at place p, and what follows where an order gives it
 
@@ -31,7 +31,7 @@ module _ (n p : ℕ) (Q : Type 0) where
   Says o = decide o ≡ some it → Q
 
   -- of each stage
-  abbrev pub Saying : List Order → Type 0
+  abbrev Saying : List Order → Type 0
   Saying [] = Unit {0}
   Saying (o ∷ os) = Says o × Saying os
 
@@ -41,7 +41,7 @@ module _ (n p : ℕ) (Q : Type 0) where
       (λ z. ss (sym (decide-turn-none o os z) ∙ e))
       (λ r z. s (z ∙ sym (decide-turn-some o os z) ∙ e))
 
-  pub says-turns : (os : List Order) → Saying os → Says (inTurn os)
+  says-turns : (os : List Order) → Saying os → Says (inTurn os)
   says-turns [] s e = absurd (Option·none-ne-some it (sym decide-over ∙ e))
   says-turns (o ∷ os) (s, ss) e = says-turn o os s (says-turns os ss) e
 
@@ -53,51 +53,51 @@ module _ (n p : ℕ) (Q : Type 0) where
 
 -- the numbers of a stage, and of each stage
 abbrev pub Label : Order → Type 0
-Label o = (ns : List ℕ) × All (Numbered ns) o
+Label o = (ns : List ℕ) × All (NumberIn ns) o
 
 abbrev pub Labels : List Order → Type 0
 Labels [] = Unit {0}
 Labels (o ∷ os) = Label o × Labels os
 
-pub own-number : (n p : ℕ) (c : Bool) → Numbered (n ∷ []) (trial n p c)
+pub own-number : (n p : ℕ) (c : Bool) → NumberIn (n ∷ []) (trial n p c)
 own-number n p c = or-left (eqb n n) false (eq-eqb n n refl)
 
 abbrev pub tryLabel : (n p : ℕ) (c : Bool) → Label (try n p c)
-tryLabel n p c = (n ∷ [], all-try (Numbered (n ∷ [])) n p c (own-number n p c))
+tryLabel n p c = (n ∷ [], all-try (NumberIn (n ∷ [])) n p c (own-number n p c))
 
 abbrev pub eachLabel : (n : ℕ) (f : ℕ → Bool) (i m : ℕ) → Label (tryEach n f i m)
-eachLabel n f i m = (n ∷ [], all-tried (Numbered (n ∷ [])) n f i m (λ k l u. own-number n k (f k)))
+eachLabel n f i m = (n ∷ [], all-tried (NumberIn (n ∷ [])) n f i m (λ k l u. own-number n k (f k)))
 
 -- all of them
-abbrev pub numbersOf : (os : List Order) → Labels os → List ℕ
-numbersOf [] s = []
-numbersOf (o ∷ os) s = s .0 .0 ++ numbersOf os (s .1)
+abbrev pub numbersIn : (os : List Order) → Labels os → List ℕ
+numbersIn [] s = []
+numbersIn (o ∷ os) s = s .0 .0 ++ numbersIn os (s .1)
 
-pub all-labels : (os : List Order) (s : Labels os) → All (Numbered (numbersOf os s)) (inTurn os)
+pub all-labels : (os : List Order) (s : Labels os) → All (NumberIn (numbersIn os s)) (inTurn os)
 unfolding inTurn
 all-labels [] s = All.empty
 all-labels (o ∷ os) s =
     all-append _
-    (all-more (λ t m. rw (member-append (t .refusal .number) (s .0 .0) (numbersOf os (s .1))) (or-left _ (member (t .refusal .number) (numbersOf os (s .1))) m)) (s .0 .1))
-    (all-more (λ t m. rw (member-append (t .refusal .number) (s .0 .0) (numbersOf os (s .1))) (or-right (member (t .refusal .number) (s .0 .0)) _ m)) (all-labels os (s .1)))
+    (all-more (λ t m. rw (member-append (t .refusal .number) (s .0 .0) (numbersIn os (s .1))) (or-left _ (member (t .refusal .number) (numbersIn os (s .1))) m)) (s .0 .1))
+    (all-more (λ t m. rw (member-append (t .refusal .number) (s .0 .0) (numbersIn os (s .1))) (or-right (member (t .refusal .number) (s .0 .0)) _ m)) (all-labels os (s .1)))
 
 module _ (low high : ℕ) where
   abbrev has : List ℕ → Bool
   has ns = any (within low high) ns
 
   -- the first such stage
-  abbrev pub stage : (os : List Order) → Labels os → Order
+  abbrev stage : (os : List Order) → Labels os → Order
   stage [] l = []
   stage (o ∷ os) l = cond (has (l .0 .0)) o (stage os (l .1))
 
   -- there is none, or just one
-  abbrev pub free : (os : List Order) → Labels os → Bool
+  abbrev free : (os : List Order) → Labels os → Bool
   free [] l = true
   free (o ∷ os) l = not (has (l .0 .0)) && free os (l .1)
 
-  abbrev pub alone : (os : List Order) → Labels os → Bool
-  alone [] l = false
-  alone (o ∷ os) l = cond (has (l .0 .0)) (free os (l .1)) (alone os (l .1))
+  abbrev pub justOne : (os : List Order) → Labels os → Bool
+  justOne [] l = false
+  justOne (o ∷ os) l = cond (has (l .0 .0)) (free os (l .1)) (justOne os (l .1))
 
   module _ (n p : ℕ) (l : low ≤ n) (u : n ≤ high) where
     apart : (ns : List ℕ) → has ns ≡ false → member n ns ≡ false
@@ -109,8 +109,8 @@ module _ (low high : ℕ) where
         inside : (k : ℕ) → n ≡ k → within low high k ≡ true
         inside k z = rw (le-leb low k (omega arith), le-leb k high (omega arith))
 
-    away : {Q : Type 0} (ns : List ℕ) {o : Order} → All (Numbered ns) o → has ns ≡ false → Says n p Q o
-    away {Q} ns a f = elsewhere n p Q (Numbered ns) a (λ t x q. clash x (rw q (apart ns f)))
+    away : {Q : Type 0} (ns : List ℕ) {o : Order} → All (NumberIn ns) o → has ns ≡ false → Says n p Q o
+    away {Q} ns a f = elsewhere n p Q (NumberIn ns) a (λ t x q. clash x (rw q (apart ns f)))
 
     free-never : (Q : Type 0) (os : List Order) (s : Labels os) → free os s ≡ true → Saying n p Q os
     free-never Q [] s f = tt
@@ -118,7 +118,7 @@ module _ (low high : ℕ) where
         (away (s .0 .0) (s .0 .1) (not-both _ (and-left _ (free os (s .1)) f)), free-never Q os (s .1) (and-right (not (has (s .0 .0))) _ f))
 
     -- it decides
-    pub stage-decides : (os : List Order) (s : Labels os) → alone os s ≡ true → Says n p (decide (stage os s) ≡ some (record { number = n; place = p })) (inTurn os)
+    pub stage-decides : (os : List Order) (s : Labels os) → justOne os s ≡ true → Says n p (decide (stage os s) ≡ some (record { number = n; place = p })) (inTurn os)
     stage-decides [] s a = clash a refl
     stage-decides (o ∷ os) s a =
         byCases (has (s .0 .0))

@@ -28,7 +28,7 @@ unfolding journalOf
 length-journalOf m rs =
     length-append (bytesOf (headWith (length rs) m)) (encoded rs) ∙ omega (arith, length-encoded rs, length-bytesOf (headWith (length rs) m))
 
-pub encoded-bytes : (rs : List Record) → Bytes (encoded rs)
+encoded-bytes : (rs : List Record) → Bytes (encoded rs)
 unfolding encoded
 encoded-bytes [] = none
 encoded-bytes (r ∷ rs) = Bytes-append (encoded-bytes rs) (bytesOf-bytes r)
@@ -41,7 +41,7 @@ journalOf-bytes m rs = Bytes-append (bytesOf-bytes (headWith (length rs) m)) (en
 
 module _ (h : List ℕ) (e : length h ≡ 20) where
   -- what holds of each record holds of what is read at its number
-  pub encoded-each : (P : ℕ → Record → Type 0) {rs : List Record} (z : List ℕ) → Each P rs → Each (λ i r. Fitting r) rs → (i : ℕ) → 1 ≤ i → i ≤ length rs
+  encoded-each : (P : ℕ → Record → Type 0) {rs : List Record} (z : List ℕ) → Each P rs → Each (λ i r. Fitting r) rs → (i : ℕ) → 1 ≤ i → i ≤ length rs
       → P i (recordAt (h ++ encoded rs ++ z) i)
   unfolding encoded
   encoded-each P z done f i l m = absurd (omega arith)
@@ -52,7 +52,7 @@ module _ (h : List ℕ) (e : length h ≡ 20) where
       (λ q. let d = eqb-false i _ q in
       rw (s, append-assoc (h ++ encoded rs) (bytesOf r) z) (encoded-each P (bytesOf r ++ z) c f i l (omega arith)))
 
-  pub records-encoded : (rs : List Record) (z : List ℕ) → Each (λ i r. Fitting r) rs → records (h ++ encoded rs ++ z) (length rs) ≡ rs
+  records-encoded : (rs : List Record) (z : List ℕ) → Each (λ i r. Fitting r) rs → records (h ++ encoded rs ++ z) (length rs) ≡ rs
   unfolding encoded records
   records-encoded [] z f = refl
   records-encoded (r ∷ rs) z (and g f) =

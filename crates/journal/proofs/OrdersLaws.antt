@@ -15,7 +15,7 @@ use Rattle.lists.proofs.TablesLaws.{each-zero, each-suc, each-last, each-ext}
 use Rattle.lists.specs.Search.{orElse}
 use Rattle.journal.specs.Orders.{Refusal, Order, try, tryEach, inTurn, decide}
 
-pub decide-nil : decide [] ≡ none
+decide-nil : decide [] ≡ none
 unfolding decide
 decide-nil = refl
 
@@ -33,7 +33,7 @@ unfolding decide try
 decide-try n p c = refl
 
 -- conditions, then others: the others decide where none of the first holds
-pub decide-append : (a b : Order) → decide (a ++ b) ≡ orElse (decide a) (decide b)
+decide-append : (a b : Order) → decide (a ++ b) ≡ orElse (decide a) (decide b)
 unfolding decide
 decide-append [] b = refl
 decide-append (t ∷ a) b = go (t .holds) (decide-append a b)
@@ -42,10 +42,10 @@ decide-append (t ∷ a) b = go (t .holds) (decide-append a b)
     go true h = refl
     go false h = h
 
-pub decide-append-none : (a b : Order) → decide a ≡ none → decide (a ++ b) ≡ decide b
+decide-append-none : (a b : Order) → decide a ≡ none → decide (a ++ b) ≡ decide b
 decide-append-none a b e = decide-append a b ∙ ap (λ d. orElse d (decide b)) e
 
-pub decide-append-some : (a b : Order) {r : Refusal} → decide a ≡ some r → decide (a ++ b) ≡ some r
+decide-append-some : (a b : Order) {r : Refusal} → decide a ≡ some r → decide (a ++ b) ≡ some r
 decide-append-some a b e = decide-append a b ∙ ap (λ d. orElse d (decide b)) e
 
 -- ---- stages

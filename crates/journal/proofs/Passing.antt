@@ -12,31 +12,31 @@ use Rattle.format.specs.declared.Record.{Record}
 use Rattle.format.specs.Layout.{recordAt}
 use Rattle.model.specs.History.{Op, History}
 use Rattle.model.specs.Undo.{Upto, all, more}
-use Rattle.model.proofs.Legal.{Sighted}
-use Rattle.model.proofs.Repair.{sighted-ends}
+use Rattle.model.proofs.Legal.{NoBlindWrites}
+use Rattle.model.proofs.Repair.{noBlind-ends}
 use Rattle.model.proofs.Opening.{Passes, Passing, step}
 use Rattle.journal.specs.Journal.{count, items, txIn, whole}
-use Rattle.journal.specs.Refusals.{short, torn, badHead, malformed, unchained, closed, crossed, blind, mismatched}
+use Rattle.journal.specs.Refusals.{short, truncated, badHead, malformed, wrongNext, terminated, conflicting, blind, mismatched}
 use Rattle.journal.proofs.Checked.{Sound}
-use Rattle.journal.proofs.Unrefused.{head-headed, formed, record-upto, sound-passing, sound-sighted}
+use Rattle.journal.proofs.Unrefused.{head-headFields, formed, record-upto, sound-passing, sound-noBlind}
 
 pub passing-whole : (b : List ℕ) → Sound b → Passing (whole b)
 unfolding whole
 passing-whole b s = sound-passing s (count b) (omega arith)
 
-pub sighted-whole : (b : List ℕ) → Sound b → Sighted (whole b)
+pub noBlind-whole : (b : List ℕ) → Sound b → NoBlindWrites (whole b)
 unfolding whole
-sighted-whole b s = sound-sighted s (count b) (omega arith)
+noBlind-whole b s = sound-noBlind s (count b) (omega arith)
 
 passing-upto : {r : Op} {p j : History} → Passing j → Upto (r ∷ p) j → Passes p r
 passing-upto (step k l) all = l
 passing-upto (step k l) (more i) = passing-upto k i
 
 -- what each record needs beside the rules
-pub sound-from : (b : List ℕ) → short b ≡ false → badHead b ≡ false → torn b ≡ false
-    → ((i : ℕ) → i < count b → malformed (items b) (recordAt b (suc i)) ≡ false) → ((i : ℕ) → i < count b → unchained b (suc i) ≡ false)
-    → Passing (whole b) → Sighted (whole b) → Sound b
-unfolding closed crossed blind mismatched whole
+pub sound-from : (b : List ℕ) → short b ≡ false → badHead b ≡ false → truncated b ≡ false
+    → ((i : ℕ) → i < count b → malformed (items b) (recordAt b (suc i)) ≡ false) → ((i : ℕ) → i < count b → wrongNext b (suc i) ≡ false)
+    → Passing (whole b) → NoBlindWrites (whole b) → Sound b
+unfolding terminated conflicting blind mismatched whole
 sound-from b l h w m u k g =
     record {
       long = l;
@@ -44,7 +44,7 @@ sound-from b l h w m u k g =
       full = w;
       right = λ i n.
           let p = passing-upto k (record-upto b i (count b) n) in
-          record { formed = m i n; chained = u i n; follows = record { unclosed = p .closed; uncrossed = p .uncrossed; sighted = sighted-ends g (record-upto b i (count b) n) .1 }; matched = p .matched };
+          record { formed = m i n; chained = u i n; follows = record { notTerminated = p .notTerminated; notConflicting = p .notConflicting; notBlind = noBlind-ends g (record-upto b i (count b) n) .1 }; matched = p .matched };
     }
 
 -- ---- the head
@@ -57,7 +57,7 @@ pub record HeadFacts (b : List ℕ) : Type 0 where
 pub head-facts : (b : List ℕ) → badHead b ≡ false → HeadFacts b
 unfolding count items
 head-facts b h =
-    let e = head-headed b h in
+    let e = head-headFields b h in
     record {
       few = e .count;
       some = leb-true _ _ (and-left (leb 1 (recordAt b 0 .item .0)) _ (e .items));

@@ -16,7 +16,7 @@ use Rattle.model.specs.History.{Op, History, Tag, read, write, commit, abort, o
 use Rattle.model.specs.Undo.{Upto, all, more, only, retag, renumber}
 use Rattle.model.proofs.Renumber.{length-renumber}
 use Rattle.journal.specs.Journal.{txIn, opOf, records, history}
-use Rattle.journal.specs.Copy.{linkedTo, Rule, unchanged, copiedBy, copied}
+use Rattle.journal.specs.Copy.{linkedTo, CopyRule, unchanged, copiedBy, copied}
 
 -- ---- one record
 
@@ -39,7 +39,7 @@ txOf-opOf i r = by-kind (λ o. txOf o ≡ txIn r) i r refl refl refl refl refl
 pub tagOf-opOf : (i : Tag) (r : Record) → tagOf (opOf i r) ≡ i
 tagOf-opOf i r = by-kind (λ o. tagOf o ≡ i) i r refl refl refl refl refl
 
-pub retag-opOf : (i j : Tag) (r : Record) → retag i (opOf j r) ≡ opOf i r
+retag-opOf : (i j : Tag) (r : Record) → retag i (opOf j r) ≡ opOf i r
 unfolding opOf
 retag-opOf i j r = four (eqb (r .kind) 1) (eqb (r .kind) 2) (eqb (r .kind) 3) (eqb (r .kind) 4)
   where
@@ -129,7 +129,7 @@ records-each P b (suc n) h = and {r = recordAt b (suc n)} {rs = records b n} (rw
 
 -- ---- the copied records
 
-module _ (φ : Rule) (k : ℕ → Bool) (h : History) where
+module _ (φ : CopyRule) (k : ℕ → Bool) (h : History) where
   -- they are no more than there were
   pub length-copiedBy : (rs : List Record) → length (copiedBy φ k h rs) ≤ length rs
   unfolding copiedBy
@@ -148,14 +148,14 @@ module _ (φ : Rule) (k : ℕ → Bool) (h : History) where
   copiedBy-suffix (behind {a = r} i) = byCases (k (txIn r)) (λ e. rw e (behind (copiedBy-suffix i))) (λ e. rw e (copiedBy-suffix i))
 
   -- each has the next that the history gives it, where the rule leaves it with its transaction
-  pub copiedBy-linked : ((q : List Record) (r : Record) → txIn (φ q r) ≡ txIn r) → (rs : List Record) → Each (λ i r. r .next .0 ≡ nextIn h i (txIn r)) (copiedBy φ k h rs)
+  copiedBy-linked : ((q : List Record) (r : Record) → txIn (φ q r) ≡ txIn r) → (rs : List Record) → Each (λ i r. r .next .0 ≡ nextIn h i (txIn r)) (copiedBy φ k h rs)
   unfolding copiedBy
   copiedBy-linked t [] = done
   copiedBy-linked t (r ∷ rs) =
       byCases (k (txIn r)) (λ e. rw e (and (ap (nextIn h _) (sym (t _ r))) (copiedBy-linked t rs))) (λ e. rw e (copiedBy-linked t rs))
 
   -- what holds of each record, and by the rule whatever its next, holds of each
-  pub copiedBy-each : (P : Record → Type 0) → ((m : ℕ) (q : List Record) (r : Record) → P r → P (linkedTo m (φ q r))) → {rs : List Record} → Each (λ i r. P r) rs → Each (λ i r. P r) (copiedBy φ k h rs)
+  copiedBy-each : (P : Record → Type 0) → ((m : ℕ) (q : List Record) (r : Record) → P r → P (linkedTo m (φ q r))) → {rs : List Record} → Each (λ i r. P r) rs → Each (λ i r. P r) (copiedBy φ k h rs)
   unfolding copiedBy
   copiedBy-each P f done = done
   copiedBy-each P f (and {r} {rs} p e) =

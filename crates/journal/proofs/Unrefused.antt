@@ -17,12 +17,12 @@ use Rattle.model.specs.History.{Amount, Tag, sameAmount, read, write, commit, a
 use Rattle.model.specs.Undo.{Upto}
 use Rattle.model.proofs.Amounts.{same-refl, same-eq}
 use Rattle.model.proofs.Opening.{Passing, opening, legal-passing}
-use Rattle.model.proofs.Legal.{Right, Legal, Sighted}
+use Rattle.model.proofs.Legal.{Right, Legal, NoBlindWrites}
 use Rattle.model.proofs.Extension.{Numbered, Settled, legal-at}
-use Rattle.journal.specs.Inputs.{lent}
+use Rattle.journal.specs.Inputs.{inputsOf}
 use Rattle.journal.specs.Journal.{count, items, txIn, opOf, history, whole, amountAt}
 use Rattle.journal.specs.Copy.{headWith, linkedTo}
-use Rattle.journal.specs.Refusals.{within, torn, headRight, badHead, wrongTable, bodyRight, malformed, unchained, closed, crossed, blind, mismatched, unsettled, noRoom}
+use Rattle.journal.specs.Refusals.{within, truncated, headRight, badHead, wrongTable, bodyRight, malformed, wrongNext, terminated, conflicting, blind, mismatched, unsettled, noRoom}
 use Rattle.journal.specs.Calls.{openingAt}
 use Rattle.journal.proofs.Checked.{Sound}
 use Rattle.journal.proofs.Records.{tagOf-opOf, length-history, history-suc, history-upto}
@@ -31,7 +31,7 @@ use Rattle.journal.proofs.Stored.{record-path}
 -- ---- 1 and 14: the length and the room
 
 pub sound-long : {b : List ℕ} → Sound b → 20 * (count b + 1) ≤ length b
-unfolding torn
+unfolding truncated
 sound-long s = ltb-false _ _ (s .full)
 
 pub room : (b : List ℕ) → noRoom b ≡ false → (count b < 3200) × (20 * (count b + 1) + 20 ≤ length b)
@@ -47,7 +47,7 @@ room-for b h k = rw (lt-leb 3200 (count b) h, le-ltb (length b) (20 * (count b +
 
 -- ---- 2: the head
 
-pub record Headed (r : Record) : Type 0 where
+pub record HeadFields (r : Record) : Type 0 where
   pub kind : r .kind ≡ 0
   pub reserved : r .reserved ≡ 0
   pub tx : txIn r ≡ 0
@@ -56,8 +56,8 @@ pub record Headed (r : Record) : Type 0 where
   pub before : r .before ≡ pos 0
   pub after : r .after ≡ pos 0
 
-headed : (r : Record) → headRight r ≡ true → Headed r
-headed r e =
+headFields : (r : Record) → headRight r ≡ true → HeadFields r
+headFields r e =
     let c2 : Bool = eqb (r .kind) 0 && eqb (r .reserved) 0 in
     let c3 : Bool = c2 && eqb (txIn r) 0 in
     let c4 : Bool = c3 && leb (r .next .0) 3200 in
@@ -78,26 +78,26 @@ headed r e =
       after = same-eq (r .after) (pos 0) (and-right c6 (sameAmount (r .after) (pos 0)) e);
     }
 
-headRight-headed : (r : Record) → Headed r → headRight r ≡ true
-headRight-headed r h = rw (h .kind, h .reserved, h .tx, le-leb (r .next .0) 3200 (h .count), h .items, h .before, h .after)
+headRight-headFields : (r : Record) → HeadFields r → headRight r ≡ true
+headRight-headFields r h = rw (h .kind, h .reserved, h .tx, le-leb (r .next .0) 3200 (h .count), h .items, h .before, h .after)
 
-pub head-headed : (b : List ℕ) → badHead b ≡ false → Headed (recordAt b 0)
+pub head-headFields : (b : List ℕ) → badHead b ≡ false → HeadFields (recordAt b 0)
 unfolding badHead
-head-headed b e = headed (recordAt b 0) (not-neither _ e)
+head-headFields b e = headFields (recordAt b 0) (not-neither _ e)
 
-pub headed-head : (b : List ℕ) → Headed (recordAt b 0) → badHead b ≡ false
+pub headFields-head : (b : List ℕ) → HeadFields (recordAt b 0) → badHead b ≡ false
 unfolding badHead
-headed-head b h = rw (headRight-headed (recordAt b 0) h)
+headFields-head b h = rw (headRight-headFields (recordAt b 0) h)
 
 pub head-is : (b : List ℕ) → badHead b ≡ false → recordAt b 0 ≡ headWith (count b) (items b)
 unfolding count items
 head-is b e =
-    let h = head-headed b e in
+    let h = head-headFields b e in
     record-path (h .kind) (h .reserved) (h .tx) refl refl (h .before) (h .after)
 
 pub count-bound : (b : List ℕ) → badHead b ≡ false → count b ≤ 3200
 unfolding count
-count-bound b e = head-headed b e .count
+count-bound b e = head-headFields b e .count
 
 -- ---- 3: the table
 
@@ -171,12 +171,12 @@ opOf-abort i r e = rw e
 
 -- ---- 5 and 10: the chain and the amounts
 
-pub chained-next : (b : List ℕ) (i : ℕ) → unchained b i ≡ false → recordAt b i .next .0 ≡ nextIn (whole b) i (txIn (recordAt b i))
-unfolding unchained
+pub chained-next : (b : List ℕ) (i : ℕ) → wrongNext b i ≡ false → recordAt b i .next .0 ≡ nextIn (whole b) i (txIn (recordAt b i))
+unfolding wrongNext
 chained-next b i e = eqb-true _ _ (not-neither _ e)
 
-pub next-chained : (b : List ℕ) (i : ℕ) → recordAt b i .next .0 ≡ nextIn (whole b) i (txIn (recordAt b i)) → unchained b i ≡ false
-unfolding unchained
+pub next-chained : (b : List ℕ) (i : ℕ) → recordAt b i .next .0 ≡ nextIn (whole b) i (txIn (recordAt b i)) → wrongNext b i ≡ false
+unfolding wrongNext
 next-chained b i e = rw (eq-eqb _ _ e)
 
 pub settled-amount : (b : List ℕ) (t : List Amount) (x : ℕ) → unsettled b t x ≡ false → Settled (amountAt t x) (whole b) x
@@ -198,20 +198,20 @@ pub record-upto : (b : List ℕ) (i n : ℕ) → i < n → Upto (opOf (suc i) (r
 record-upto b i n h = rw (history-suc b i) at (history-upto b (suc i) n h)
 
 pub sound-passing : {b : List ℕ} → Sound b → (n : ℕ) → n ≤ count b → Passing (history b n)
-unfolding history closed crossed mismatched
+unfolding history terminated conflicting mismatched
 sound-passing s zero h = Passing.start
 sound-passing s (suc n) h =
     let w = s .right n h in
-    Passing.step (sound-passing s n (omega arith)) (record { closed = w .follows .unclosed; uncrossed = w .follows .uncrossed; matched = w .matched })
+    Passing.step (sound-passing s n (omega arith)) (record { notTerminated = w .follows .notTerminated; notConflicting = w .follows .notConflicting; matched = w .matched })
 
-pub sound-sighted : {b : List ℕ} → Sound b → (n : ℕ) → n ≤ count b → Sighted (history b n)
+pub sound-noBlind : {b : List ℕ} → Sound b → (n : ℕ) → n ≤ count b → NoBlindWrites (history b n)
 unfolding history blind
-sound-sighted s zero h = tt
-sound-sighted s (suc n) h = (sound-sighted s n (omega arith), s .right n h .follows .sighted)
+sound-noBlind s zero h = tt
+sound-noBlind s (suc n) h = (sound-noBlind s n (omega arith), s .right n h .follows .notBlind)
 
 -- a write's before is the standing amount from the opening table, the item's first write included
 pub before-standing : {b : List ℕ} → Sound b → (t : List Amount) (i : ℕ) → i < count b → recordAt b (suc i) .kind ≡ 2
-    → recordAt b (suc i) .before ≡ current (openingAt (lent b t) (recordAt b (suc i) .item .0)) (history b i) (recordAt b (suc i) .item .0)
+    → recordAt b (suc i) .before ≡ current (openingAt (inputsOf b t) (recordAt b (suc i) .item .0)) (history b i) (recordAt b (suc i) .item .0)
 unfolding whole openingAt
 before-standing {b} s t i h e =
     let o : ℕ → Amount = opening (amountAt t) (history b (count b)) in

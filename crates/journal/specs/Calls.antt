@@ -1,4 +1,4 @@
--- The result of start, post, check, slip and take-back on any input: the answer and every loan afterwards.
+-- The result of start, post, check, slip, counting and take-back on any input: the answer and every loan afterwards.
 -- Document 01, "The rules of taking back" and "The calls beside it". Assumes nothing.
 use mathlib.Core.Bool.{cond}
 use mathlib.Core.List.{List, [], _∷_}
@@ -8,35 +8,36 @@ use lib.IntN.{pos}
 use lib.Dec.{eqb}
 use lib.ListN.{length}
 use Rattle.lists.specs.Search.{first, latest}
-use Rattle.lists.specs.Tables.{tabulate, store, number}
+use Rattle.lists.specs.Tables.{tabulate, store, countIf}
 use Rattle.format.specs.declared.Record.{Record}
 use Rattle.format.specs.Bytes.{bytes}
 use Rattle.format.specs.Layout.{recordAt, bytesOf}
+use Rattle.format.specs.Limits.{recordBytes, maxTransaction}
 use Rattle.model.specs.History.{Op, History, Amount, tagIn, ofTx, active, applied}
-use Rattle.model.specs.Undo.{feeds, surviving, undone}
+use Rattle.model.specs.Undo.{isSource, surviving, undone}
 use Rattle.journal.specs.Inputs.{Inputs}
 use Rattle.journal.specs.Journal.{count, opOf, whole, amountAt}
-use Rattle.journal.specs.Refusals.{Tally}
-use Rattle.journal.specs.Orders.{Refusal, decide, startOrder, checkOrder, chainOrder, appendOrder, undoOrder}
+use Rattle.journal.specs.Refusals.{RecordCounts, countsByKind}
+use Rattle.journal.specs.Orders.{Refusal, decide, openOrder, startOrder, checkOrder, chainOrder, appendOrder, undoOrder}
 use Rattle.journal.specs.Copy.{headWith, unchanged, copy}
-pub use Rattle.journal.specs.Results.{Answer, refused, accepted, answered, after, written, Counts, Undone}
-unfoldable pub use Rattle.journal.specs.Results.{result, openingAt, openingTable, statusOf, statuses, tableLeft, counts}
+pub use Rattle.journal.specs.Results.{Answer, refused, accepted, answered, loanAfter, written, UndoTotals, UndoResult}
+unfoldable pub use Rattle.journal.specs.Results.{result, openingAt, openingTable, statusOf, statuses, tableLeft, undoTotals}
 
 -- ---- start: an accepted start answers nothing
 
-pub record Started : Type 0 where
+pub record StartResult : Type 0 where
   pub answer : Answer (Unit {0})
   pub journal : List ℕ
 
-unfoldable pub start : List ℕ → ℕ → Started
+unfoldable pub start : List ℕ → ℕ → StartResult
 start b n =
     let d : Option Refusal = decide (startOrder b n) in
-    record { answer = answered d tt; journal = after d b (store 0 (bytesOf (headWith 0 n)) b) }
+    record { answer = answered d tt; journal = loanAfter d b (store 0 (bytesOf (headWith 0 n)) b) }
 
 -- ---- check: how many sales are open
 
 unfoldable pub check : Inputs → Answer ℕ
-check d = answered (decide (checkOrder d)) (number (active (whole (d .journal))) 1 1024)
+check d = answered (decide (checkOrder d)) (countIf (active (whole (d .journal))) 1 maxTransaction)
 
 -- ---- slip
 
@@ -49,15 +50,15 @@ walk b (suc n) i = let l : List ℕ = walk b n (recordAt b i .next .0) in cond (
 unfoldable pub chainOf : List ℕ → ℕ → List ℕ
 chainOf b s = walk b (count b) (tagIn (first (ofTx s) (whole b)))
 
-pub record Walked : Type 0 where
+pub record ChainResult : Type 0 where
   pub answer : Answer ℕ
   pub lsns : List ℕ
 
-unfoldable pub chain : List ℕ → ℕ → List ℕ → Walked
+unfoldable pub chain : List ℕ → ℕ → List ℕ → ChainResult
 chain b s l =
     let c : List ℕ = chainOf b s in
     let d : Option Refusal = decide (chainOrder b s l (length c)) in
-    record { answer = answered d (length c); lsns = after d l (written c l) }
+    record { answer = answered d (length c); lsns = loanAfter d l (written c l) }
 
 -- ---- post: an accepted post answers nothing
 
@@ -76,21 +77,21 @@ newRecord t kind s x a =
 
 -- the journal with n as the next of record i; of no record, where i is 0
 unfoldable pub link : ℕ → ℕ → List ℕ → List ℕ
-link n i b = cond (eqb i 0) b (store (20 * i + 4) (bytes 4 n) b)
+link n i b = cond (eqb i 0) b (store (recordBytes * i + 4) (bytes 4 n) b)
 
 -- the journal with one record more: the record, the next of the sale's last record until now, the record count
 unfoldable pub extended : List ℕ → Record → List ℕ
 extended b r =
     let n : ℕ = suc (count b) in
     let s : ℕ = r .transaction .0 in
-    store 4 (bytes 4 n) (link n (tagIn (latest (ofTx s) (whole b))) (store (20 * n) (bytesOf r) b))
+    store 4 (bytes 4 n) (link n (tagIn (latest (ofTx s) (whole b))) (store (recordBytes * n) (bytesOf r) b))
 
 -- the table after one operation more: a write sets its item, a rollback restores
-unfoldable pub tableAfter : History → Op → List Amount → List Amount
-tableAfter p o t = tabulate (λ x. applied o p x (amountAt t x)) 0 (length t)
+unfoldable pub appliedTable : History → Op → List Amount → List Amount
+appliedTable p o t = tabulate (λ x. applied o p x (amountAt t x)) 0 (length t)
 
 -- one of the four rises by one
-unfoldable pub raised : ℕ → Tally → Tally
+unfoldable pub raised : ℕ → RecordCounts → RecordCounts
 raised kind c =
     record {
       reads = cond (eqb kind 1) (suc (c .reads)) (c .reads);
@@ -99,13 +100,13 @@ raised kind c =
       aborts = cond (eqb kind 4) (suc (c .aborts)) (c .aborts);
     }
 
-pub record Appended : Type 0 where
+pub record AppendResult : Type 0 where
   pub answer : Answer (Unit {0})
   pub journal : List ℕ
   pub table : List Amount
-  pub tally : Tally
+  pub counts : RecordCounts
 
-unfoldable pub append : Inputs → Tally → ℕ → ℕ → ℕ → Amount → Appended
+unfoldable pub append : Inputs → RecordCounts → ℕ → ℕ → ℕ → Amount → AppendResult
 append d c kind s x a =
     let b : List ℕ = d .journal in
     let t : List Amount = d .table in
@@ -113,15 +114,20 @@ append d c kind s x a =
     let v : Option Refusal = decide (appendOrder d c r) in
     record {
       answer = answered v tt;
-      journal = after v b (extended b r);
-      table = after v t (tableAfter (whole b) (opOf (suc (count b)) r) t);
-      tally = after v c (raised kind c);
+      journal = loanAfter v b (extended b r);
+      table = loanAfter v t (appliedTable (whole b) (opOf (suc (count b)) r) t);
+      counts = loanAfter v c (raised kind c);
     }
+
+-- ---- counting: the tally that post is lent, of a stored journal or a copy; 1, 2 and 1 alone are tried
+
+unfoldable pub countRecords : List ℕ → Answer RecordCounts
+countRecords b = answered (decide (openOrder b)) (countsByKind (whole b))
 
 -- ---- take-back: the result of the transactions that the list leaves
 
-unfoldable pub undo : Inputs → List ℕ → List ℕ → List ℕ → Undone
+unfoldable pub undo : Inputs → List ℕ → List ℕ → List ℕ → UndoResult
 undo d bad status out =
     let j : History = whole (d .journal) in
     let v : Option Refusal = decide (undoOrder d bad status out (length (copy bad (d .journal)))) in
-    result unchanged (undone feeds bad j) (surviving feeds bad j) v d status out
+    result unchanged (undone isSource bad j) (surviving isSource bad j) v d status out

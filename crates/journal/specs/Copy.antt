@@ -8,13 +8,21 @@ use lib.ListN.{length}
 use Rattle.format.specs.declared.Record.{Record}
 use Rattle.format.specs.Layout.{bytesOf}
 use Rattle.model.specs.History.{History, nextIn}
-use Rattle.model.specs.Undo.{feeds, surviving, only, renumber}
+use Rattle.model.specs.Undo.{isSource, surviving, only, renumber}
 use Rattle.journal.specs.Journal.{count, items, txIn, records, whole}
 
 -- the head of a journal of n records and m items
 abbrev pub headWith : ℕ → ℕ → Record
 headWith n m =
-    record { kind = 0; reserved = 0; transaction = record { 0 = 0 }; next = record { 0 = n }; item = record { 0 = m }; before = pos 0; after = pos 0 }
+    record {
+      kind = 0;
+      reserved = 0;
+      transaction = record { 0 = 0 };
+      next = record { 0 = n };
+      item = record { 0 = m };
+      before = pos 0;
+      after = pos 0;
+    }
 
 -- the record with another next, all other fields unchanged
 abbrev pub linkedTo : ℕ → Record → Record
@@ -35,15 +43,16 @@ encoded [] = []
 encoded (r ∷ rs) = encoded rs ++ bytesOf r
 
 -- how a kept record stands in the copy, its next aside, by the records that stand before it there
-abbrev pub Rule : Type 0
-Rule = List Record → Record → Record
+abbrev pub CopyRule : Type 0
+CopyRule = List Record → Record → Record
 
 -- 01: all other fields unchanged
-abbrev pub unchanged : Rule
+abbrev pub unchanged : CopyRule
 unchanged rest r = r
 
--- the records of the transactions of k, newest first, each by the rule φ, with next worked out again in the history h that they make
-unfoldable pub copiedBy : Rule → (ℕ → Bool) → History → List Record → List Record
+-- the records of the transactions of k, newest first, each by the rule φ, with next worked out again in the history h that they
+-- make
+unfoldable pub copiedBy : CopyRule → (ℕ → Bool) → History → List Record → List Record
 copiedBy φ k h [] = []
 copiedBy φ k h (r ∷ rs) =
     let rest : List Record = copiedBy φ k h rs in
@@ -58,18 +67,18 @@ journalOf m rs = bytesOf (headWith (length rs) m) ++ encoded rs
 
 -- ---- the copy that keeps the transactions of k, by the rule φ
 
-unfoldable pub recordsKept : Rule → (ℕ → Bool) → List ℕ → List Record
-recordsKept φ k b = copiedBy φ k (renumber (only k (whole b))) (records b (count b))
+unfoldable pub recordsSurviving : CopyRule → (ℕ → Bool) → List ℕ → List Record
+recordsSurviving φ k b = copiedBy φ k (renumber (only k (whole b))) (records b (count b))
 
-unfoldable pub copyKept : Rule → (ℕ → Bool) → List ℕ → List ℕ
-copyKept φ k b = journalOf (items b) (recordsKept φ k b)
+unfoldable pub copySurviving : CopyRule → (ℕ → Bool) → List ℕ → List ℕ
+copySurviving φ k b = journalOf (items b) (recordsSurviving φ k b)
 
 -- ---- take-back's
 
 -- 01: the copy's records
 unfoldable pub copyRecords : List ℕ → List ℕ → List Record
-copyRecords bad b = recordsKept unchanged (surviving feeds bad (whole b)) b
+copyRecords bad b = recordsSurviving unchanged (surviving isSource bad (whole b)) b
 
 -- 01: the copy, to the byte
 unfoldable pub copy : List ℕ → List ℕ → List ℕ
-copy bad b = copyKept unchanged (surviving feeds bad (whole b)) b
+copy bad b = copySurviving unchanged (surviving isSource bad (whole b)) b

@@ -8,10 +8,13 @@ use lib.ListN.{length, getD}
 use Rattle.lists.specs.Tables.{each}
 use Rattle.format.specs.declared.Record.{Record}
 use Rattle.format.specs.Layout.{recordAt}
+use Rattle.format.specs.Limits.{maxTransaction}
 use Rattle.model.specs.History.{Op, History}
 use Rattle.journal.specs.Inputs.{Inputs}
 use Rattle.journal.specs.Journal.{count, items, opOf, history, whole}
-use Rattle.journal.specs.Refusals.{Tally, short, torn, badItems, badHead, wrongTable, malformed, unchained, closed, crossed, blind, mismatched, unsettled, stillActive, unknown, absent, wrongStatus, tooShort, noRoom, wrongTally}
+use Rattle.journal.specs.Refusals.{RecordCounts, short, truncated, badItems, badHead, wrongTable, malformed, wrongNext}
+use Rattle.journal.specs.Refusals.{terminated, conflicting, blind, mismatched, unsettled, stillActive, unknown, absent}
+use Rattle.journal.specs.Refusals.{wrongStatus, tooShort, noRoom, wrongCounts}
 
 -- what a refused call returns
 pub record Refusal : Type 0 where
@@ -52,7 +55,7 @@ decide (t ∷ o) = cond (t .holds) (some (t .refusal)) (decide o)
 
 -- 1 (under 20 bytes), 2, 1 (whole length)
 unfoldable pub openOrder : List ℕ → Order
-openOrder b = inTurn (try 1 0 (short b) ∷ try 2 0 (badHead b) ∷ try 1 0 (torn b) ∷ [])
+openOrder b = inTurn (try 1 0 (short b) ∷ try 2 0 (badHead b) ∷ try 1 0 (truncated b) ∷ [])
 
 -- 3
 unfoldable pub tableOrder : Inputs → Order
@@ -60,7 +63,7 @@ tableOrder d = try 3 0 (wrongTable (d .journal) (d .table))
 
 -- 6 to 8 of operation o, record i, after the history p
 unfoldable pub accessOrder : History → ℕ → Op → Order
-accessOrder p i o = inTurn (try 6 i (closed p o) ∷ try 7 i (crossed p o) ∷ try 8 i (blind p o) ∷ [])
+accessOrder p i o = inTurn (try 6 i (terminated p o) ∷ try 7 i (conflicting p o) ∷ try 8 i (blind p o) ∷ [])
 
 -- 6 to 9
 unfoldable pub ruleOrder : History → ℕ → Op → Order
@@ -70,7 +73,7 @@ ruleOrder p i o = inTurn (accessOrder p i o ∷ try 9 i (mismatched p o) ∷ [])
 unfoldable pub recordOrder : List ℕ → ℕ → Order
 recordOrder b i =
     let r : Record = recordAt b i in
-    inTurn (try 4 i (malformed (items b) r) ∷ try 5 i (unchained b i) ∷ ruleOrder (history b (pred i)) i (opOf i r) ∷ [])
+    inTurn (try 4 i (malformed (items b) r) ∷ try 5 i (wrongNext b i) ∷ ruleOrder (history b (pred i)) i (opOf i r) ∷ [])
 
 -- among 4 to 9 the lowest record decides, then the lowest number
 unfoldable pub recordsOrder : List ℕ → Order
@@ -86,7 +89,7 @@ settledOrder d = tryEach 10 (unsettled (d .journal) (d .table)) 0 (items (d .jou
 
 -- 11, lowest sale first: active says which are open
 unfoldable pub activeOrder : (ℕ → Bool) → Order
-activeOrder active = tryEach 11 active 1 1024
+activeOrder active = tryEach 11 active 1 maxTransaction
 
 -- 12, lowest list position first: unknown says which numbers are
 unfoldable pub knownOrder : (ℕ → Bool) → List ℕ → Order
@@ -105,8 +108,8 @@ unfoldable pub capacityOrder : {A : Type 0} → List A → ℕ → Order
 capacityOrder l n = try 14 0 (tooShort l n)
 
 -- 15
-unfoldable pub tallyOrder : List ℕ → Tally → Order
-tallyOrder b c = try 15 0 (wrongTally b c)
+unfoldable pub countsOrder : List ℕ → RecordCounts → Order
+countsOrder b c = try 15 0 (wrongCounts b c)
 
 -- 4, 6, 7, 8 for the record that post adds, then 14
 unfoldable pub newOrder : List ℕ → Record → Order
@@ -129,11 +132,12 @@ unfoldable pub chainOrder : List ℕ → ℕ → List ℕ → ℕ → Order
 chainOrder b s l n = inTurn (openOrder b ∷ recordsOrder b ∷ presentOrder b s ∷ capacityOrder l n ∷ [])
 
 -- post goes on after 10 with 15, then 4, 6, 7, 8 for the new record, then 14
-unfoldable pub appendOrder : Inputs → Tally → Record → Order
-appendOrder d c r = inTurn (checkOrder d ∷ tallyOrder (d .journal) c ∷ newOrder (d .journal) r ∷ [])
+unfoldable pub appendOrder : Inputs → RecordCounts → Record → Order
+appendOrder d c r = inTurn (checkOrder d ∷ countsOrder (d .journal) c ∷ newOrder (d .journal) r ∷ [])
 
 -- take-back goes on with 11, 13, 12, 14; the copy has `n` bytes
 unfoldable pub undoOrder : Inputs → List ℕ → List ℕ → List ℕ → ℕ → Order
 undoOrder d bad status out n =
     inTurn
-    (checkOrder d ∷ activeOrder (stillActive (d .journal)) ∷ statusOrder status ∷ knownOrder (unknown (d .journal)) bad ∷ capacityOrder out n ∷ [])
+    (checkOrder d ∷ activeOrder (stillActive (d .journal)) ∷ statusOrder status ∷ knownOrder (unknown (d .journal)) bad
+    ∷ capacityOrder out n ∷ [])

@@ -2,7 +2,9 @@
 -- Assumes nothing.
 use Prim.Native.Nat.{ℕ}
 use Rattle.journal.specs.declared.Reason.{Reason}
-use Rattle.journal.specs.declared.Reason.the-variants.{Truncated, Header, TableLength, Malformed, Chain, Closed, Conflict, Blind, BeforeImage, FinalState, Active, Unknown, StatusLength, Capacity, Counts}
+use Rattle.journal.specs.declared.Reason.the-variants.{Truncated, Header, TableLength, Malformed, Chain, Closed, Conflict}
+use Rattle.journal.specs.declared.Reason.the-variants.{Blind, BeforeImage, FinalState, Active, Unknown, StatusLength}
+use Rattle.journal.specs.declared.Reason.the-variants.{Capacity, Counts}
 
 abbrev pub numberOf : Reason → ℕ
 numberOf Truncated = 1

@@ -9,17 +9,19 @@ use lib.ListN.{length}
 use Rattle.lists.specs.Search.{any, keep}
 use Rattle.format.specs.declared.Record.{Record}
 use Rattle.format.specs.Layout.{recordAt}
-use Rattle.model.specs.History.{Op, History, Amount, sameAmount, writeTo, ofTx, committed, active, standing, nextIn, isRead, isWrite, isCommit, isAbort}
+use Rattle.format.specs.Limits.{recordBytes, journalBytes, maxRecords, maxItems, maxTransaction, statusBytes}
+use Rattle.model.specs.History.{Op, History, Amount, sameAmount, writeTo, ofTx, committed, active, standing, nextIn, isRead}
+use Rattle.model.specs.History.{isWrite, isCommit, isAbort}
 use Rattle.model.specs.Rules as rules
 use Rattle.journal.specs.Journal.{count, items, txIn, whole, amountAt}
 
 -- 1 torn: fewer than 20 bytes ..
 unfoldable pub short : List ℕ → Bool
-short b = ltb (length b) 20
+short b = ltb (length b) recordBytes
 
 -- .. or fewer than 20 × (record count + 1)
-unfoldable pub torn : List ℕ → Bool
-torn b = ltb (length b) (20 * (count b + 1))
+unfoldable pub truncated : List ℕ → Bool
+truncated b = ltb (length b) (journalBytes (count b))
 
 -- a number from low to high
 abbrev pub within : ℕ → ℕ → ℕ → Bool
@@ -27,12 +29,12 @@ within low high n = leb low n && leb n high
 
 -- 2 head: start's item count breaks the layout ..
 unfoldable pub badItems : ℕ → Bool
-badItems n = not (within 1 1024 n)
+badItems n = not (within 1 maxItems n)
 
 -- .. or a head field does: all others are 0
 abbrev pub headRight : Record → Bool
 headRight r =
-    eqb (r .kind) 0 && eqb (r .reserved) 0 && eqb (txIn r) 0 && leb (r .next .0) 3200 && within 1 1024 (r .item .0)
+    eqb (r .kind) 0 && eqb (r .reserved) 0 && eqb (txIn r) 0 && leb (r .next .0) maxRecords && within 1 maxItems (r .item .0)
     && sameAmount (r .before) (pos 0) && sameAmount (r .after) (pos 0)
 
 unfoldable pub badHead : List ℕ → Bool
@@ -47,22 +49,23 @@ abbrev pub bodyRight : ℕ → Record → Bool
 bodyRight n r =
     cond (eqb (r .kind) 1) (ltb (r .item .0) n && sameAmount (r .before) (pos 0) && sameAmount (r .after) (pos 0))
     (cond (eqb (r .kind) 2) (ltb (r .item .0) n)
-    (cond (eqb (r .kind) 3 || eqb (r .kind) 4) (eqb (r .item .0) 0 && sameAmount (r .before) (pos 0) && sameAmount (r .after) (pos 0))
+    (cond (eqb (r .kind) 3 || eqb (r .kind) 4)
+    (eqb (r .item .0) 0 && sameAmount (r .before) (pos 0) && sameAmount (r .after) (pos 0))
     false))
 
 unfoldable pub malformed : ℕ → Record → Bool
-malformed n r = not (eqb (r .reserved) 0 && within 1 1024 (txIn r) && bodyRight n r)
+malformed n r = not (eqb (r .reserved) 0 && within 1 maxTransaction (txIn r) && bodyRight n r)
 
 -- 5 chain: next is wrong
-unfoldable pub unchained : List ℕ → ℕ → Bool
-unchained b i = not (eqb (recordAt b i .next .0) (nextIn (whole b) i (txIn (recordAt b i))))
+unfoldable pub wrongNext : List ℕ → ℕ → Bool
+wrongNext b i = not (eqb (recordAt b i .next .0) (nextIn (whole b) i (txIn (recordAt b i))))
 
 -- 6 to 9: closed, crossed, blind, before, of an operation after a history
-unfoldable pub closed : History → Op → Bool
-closed p r = rules.closed p r
+unfoldable pub terminated : History → Op → Bool
+terminated p r = rules.terminated p r
 
-unfoldable pub crossed : History → Op → Bool
-crossed p r = rules.crossed p r
+unfoldable pub conflicting : History → Op → Bool
+conflicting p r = rules.conflicting p r
 
 unfoldable pub blind : History → Op → Bool
 blind p r = rules.blind p r
@@ -87,7 +90,7 @@ absent b s = not (any (ofTx s) (whole b))
 
 -- 13 marks: length is not 1,025
 unfoldable pub wrongStatus : List ℕ → Bool
-wrongStatus m = not (eqb (length m) 1025)
+wrongStatus m = not (eqb (length m) statusBytes)
 
 -- 14 paper: the copy or list is shorter than needed ..
 unfoldable pub tooShort : {A : Type 0} → List A → ℕ → Bool
@@ -95,21 +98,28 @@ tooShort l n = ltb (length l) n
 
 -- .. in post, 3,200 records already or under 20 bytes left behind the journal
 unfoldable pub noRoom : List ℕ → Bool
-noRoom b = leb 3200 (count b) || ltb (length b) (20 * (count b + 1) + 20)
+noRoom b = leb maxRecords (count b) || ltb (length b) (journalBytes (count b) + recordBytes)
 
 -- record counts by kind (01: tally)
-pub record Tally : Type 0 where
+pub record RecordCounts : Type 0 where
   pub reads : ℕ
   pub writes : ℕ
   pub commits : ℕ
   pub aborts : ℕ
 
-unfoldable pub tallied : History → Tally
-tallied j = record { reads = length (keep isRead j); writes = length (keep isWrite j); commits = length (keep isCommit j); aborts = length (keep isAbort j) }
+unfoldable pub countsByKind : History → RecordCounts
+countsByKind j =
+    record {
+      reads = length (keep isRead j);
+      writes = length (keep isWrite j);
+      commits = length (keep isCommit j);
+      aborts = length (keep isAbort j);
+    }
 
 -- 15 tally: differs from the journal
-abbrev pub sameTally : Tally → Tally → Bool
-sameTally c d = eqb (c .reads) (d .reads) && eqb (c .writes) (d .writes) && eqb (c .commits) (d .commits) && eqb (c .aborts) (d .aborts)
+abbrev pub sameCounts : RecordCounts → RecordCounts → Bool
+sameCounts c d =
+    eqb (c .reads) (d .reads) && eqb (c .writes) (d .writes) && eqb (c .commits) (d .commits) && eqb (c .aborts) (d .aborts)
 
-unfoldable pub wrongTally : List ℕ → Tally → Bool
-wrongTally b c = not (sameTally c (tallied (whole b)))
+unfoldable pub wrongCounts : List ℕ → RecordCounts → Bool
+wrongCounts b c = not (sameCounts c (countsByKind (whole b)))

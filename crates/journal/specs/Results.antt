@@ -5,13 +5,14 @@ use mathlib.Core.List.{List, _++_}
 use mathlib.Core.Option.{Option, none, some}
 use Prim.Native.Nat.{ℕ}
 use lib.ListN.{length, drop}
-use Rattle.lists.specs.Tables.{tabulate, number}
+use Rattle.lists.specs.Tables.{tabulate, countIf}
+use Rattle.format.specs.Limits.{maxTransaction, statusBytes}
 use Rattle.model.specs.History.{History, Amount, aborted, initial}
-use Rattle.model.specs.Undo.{feeds, surviving, undone, replayed}
+use Rattle.model.specs.Undo.{isSource, surviving, undone, replayed}
 use Rattle.journal.specs.Inputs.{Inputs}
 use Rattle.journal.specs.Journal.{whole, amountAt}
 use Rattle.journal.specs.Orders.{Refusal}
-use Rattle.journal.specs.Copy.{Rule, copyKept, copy}
+use Rattle.journal.specs.Copy.{CopyRule, copySurviving, copy}
 
 -- ---- the result of any call
 
@@ -26,9 +27,9 @@ answered none a = accepted a
 answered (some r) a = refused (r .number) (r .place)
 
 -- a loan afterwards: as it was, where the call is refused
-abbrev pub after : {A : Type 0} → Option Refusal → A → A → A
-after none old new = new
-after (some r) old new = old
+abbrev pub loanAfter : {A : Type 0} → Option Refusal → A → A → A
+loanAfter none old new = new
+loanAfter (some r) old new = old
 
 -- a list with its front written
 abbrev pub written : {A : Type 0} → List A → List A → List A
@@ -50,49 +51,54 @@ openingTable d = tabulate (openingAt d) 0 (length (d .table))
 unfoldable pub statusOf : (ℕ → Bool) → (ℕ → Bool) → ℕ → ℕ
 statusOf u k s = cond (u s) 2 (cond (k s) 1 0)
 
-unfoldable pub marks : (ℕ → Bool) → (ℕ → Bool) → List ℕ
-marks u k = tabulate (statusOf u k) 0 1025
+unfoldable pub statusVector : (ℕ → Bool) → (ℕ → Bool) → List ℕ
+statusVector u k = tabulate (statusOf u k) 0 statusBytes
 
 -- the opening table with the afters of all kept writes set in record order
-unfoldable pub tableKept : (ℕ → Bool) → Inputs → List Amount
-tableKept k d = tabulate (λ x. replayed k (openingAt d x) (whole (d .journal)) x) 0 (length (d .table))
+unfoldable pub tableSurviving : (ℕ → Bool) → Inputs → List Amount
+tableSurviving k d = tabulate (λ x. replayed k (openingAt d x) (whole (d .journal)) x) 0 (length (d .table))
 
 -- kept, taken-back and dropped sales, and the copy's bytes
-pub record Counts : Type 0 where
+pub record UndoTotals : Type 0 where
   pub surviving : ℕ
   pub undone : ℕ
   pub aborted : ℕ
   pub bytes : ℕ
 
-unfoldable pub totals : (ℕ → Bool) → (ℕ → Bool) → List ℕ → ℕ → Counts
+unfoldable pub totals : (ℕ → Bool) → (ℕ → Bool) → List ℕ → ℕ → UndoTotals
 totals u k b n =
-    record { surviving = number k 1 1024; undone = number u 1 1024; aborted = number (aborted (whole b)) 1 1024; bytes = n }
+    record {
+      surviving = countIf k 1 maxTransaction;
+      undone = countIf u 1 maxTransaction;
+      aborted = countIf (aborted (whole b)) 1 maxTransaction;
+      bytes = n;
+    }
 
-pub record Undone : Type 0 where
-  pub answer : Answer Counts
+pub record UndoResult : Type 0 where
+  pub answer : Answer UndoTotals
   pub table : List Amount
   pub status : List ℕ
   pub out : List ℕ
 
 -- answer and loans, where the order decides v and the rule φ makes the copy's records
-unfoldable pub result : Rule → (ℕ → Bool) → (ℕ → Bool) → Option Refusal → Inputs → List ℕ → List ℕ → Undone
+unfoldable pub result : CopyRule → (ℕ → Bool) → (ℕ → Bool) → Option Refusal → Inputs → List ℕ → List ℕ → UndoResult
 result φ u k v d status out =
-    let c : List ℕ = copyKept φ k (d .journal) in
+    let c : List ℕ = copySurviving φ k (d .journal) in
     record {
       answer = answered v (totals u k (d .journal) (length c));
-      table = after v (d .table) (tableKept k d);
-      status = after v status (marks u k);
-      out = after v out (written c out);
+      table = loanAfter v (d .table) (tableSurviving k d);
+      status = loanAfter v status (statusVector u k);
+      out = loanAfter v out (written c out);
     }
 
 -- ---- by the bad list
 
 unfoldable pub statuses : List ℕ → History → List ℕ
-statuses bad j = marks (undone feeds bad j) (surviving feeds bad j)
+statuses bad j = statusVector (undone isSource bad j) (surviving isSource bad j)
 
 -- 01: the table left
 unfoldable pub tableLeft : List ℕ → Inputs → List Amount
-tableLeft bad d = tableKept (surviving feeds bad (whole (d .journal))) d
+tableLeft bad d = tableSurviving (surviving isSource bad (whole (d .journal))) d
 
-unfoldable pub counts : List ℕ → List ℕ → Counts
-counts bad b = totals (undone feeds bad (whole b)) (surviving feeds bad (whole b)) b (length (copy bad b))
+unfoldable pub undoTotals : List ℕ → List ℕ → UndoTotals
+undoTotals bad b = totals (undone isSource bad (whole b)) (surviving isSource bad (whole b)) b (length (copy bad b))

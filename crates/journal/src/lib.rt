@@ -1,12 +1,13 @@
-// Document 01 at the bytes: the journal, each refusal, the order of each call, and the result of each call on any input. The code here
-// is the type of refusals, with document 01's number and place of each.
+// Document 01 at the bytes: the journal, each refusal, the order of each call, and the result of each call on any input. The code
+// here is the type of refusals, with document 01's number and place of each.
 ghost use mathlib.Core.Path.{_≡_};
 ghost use Rattle.journal.specs.Reasons.{numberOf, placeOf};
 use format::Key;
 use format::Lsn;
 use format::TransactionId;
 
-// Why a call is refused, with the place (document 01, "Reasons for handing it back"). specs/Reasons.antt gives each its number and place.
+// Why a call is refused, with the place (document 01, "Reasons for handing it back"). specs/Reasons.antt gives each its number and
+// place.
 pub enum Reason {
     Truncated,
     Header,

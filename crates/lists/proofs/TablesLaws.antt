@@ -7,9 +7,9 @@ use Prim.Native.Nat.{ℕ, zero, suc, _+_, _-_, _≤_, _<_}
 use native.Mathlib.Nat.{add-zero, zero-add, suc-add}
 use native.Mathlib.Omega.{arith}
 use lib.ListN.{length, take, drop, getD, set, length-append, length-drop, drop-of-length-le, List·getD-eq-default}
-use lib.Seq.{take-append-add, length-take-le, take-append-le, take-at, drop-at, drop-append-add, getD-take, getD-drop, take-take, take-nil, drop-drop, sets, sets-eq, set-out, ext-getD}
+use lib.Seq.{take-append-add, length-take-le, take-append-le, take-at, drop-at, drop-append-add, getD-take, take-take, take-nil, drop-drop, sets, sets-eq, set-out, ext-getD}
 use borrow.Rule.Slice.PartMut.{putMid}
-use Rattle.lists.specs.Tables.{tabulate, each, store, number}
+use Rattle.lists.specs.Tables.{tabulate, each, store, countIf}
 use Rattle.lists.proofs.BoolLaws.{byCases}
 
 -- ---- behind the end of a list
@@ -137,7 +137,7 @@ module _ {A : Type 0} where
     length-store = simp (length-append, length-before, length-drop) (omega arith)
 
     -- in front of what is stored
-    pub take-store : (n : ℕ) → n ≤ at → take n (store at v l) ≡ take n l
+    take-store : (n : ℕ) → n ≤ at → take n (store at v l) ≡ take n l
     unfolding store
     take-store n h =
         ap (take n) (append-assoc (take at l) v _) ∙ take-append-le n (take at l) _ (omega (arith, length-before)) ∙ take-take n at l h
@@ -154,21 +154,12 @@ module _ {A : Type 0} where
         ap (λ k. drop k (store at v l)) e ∙ drop-append-add (take at l ++ v) _ (n - (at + length v))
         ∙ drop-drop (n - (at + length v)) (at + length v) l ∙ ap (λ k. drop k l) back
 
-    pub getD-store-after : (k : ℕ) (d : A) → at + length v ≤ k → getD (store at v l) k d ≡ getD l k d
-    getD-store-after k d h =
-        ap (λ j. getD (store at v l) j d) (sym (add-zero k)) ∙ sym (getD-drop k _ 0 d) ∙ ap (λ r. getD r 0 d) (drop-store k h)
-        ∙ getD-drop k l 0 d ∙ ap (λ j. getD l j d) (add-zero k)
-
     -- what is stored
     pub part-store : take (length v) (drop at (store at v l)) ≡ v
     unfolding store
     part-store =
         ap (λ r. take (length v) (drop at r)) (append-assoc (take at l) v _)
         ∙ ap (take (length v)) (drop-at (take at l) _ at length-before) ∙ take-at v _ (length v) refl
-
-    pub getD-store-inside : (k : ℕ) (d : A) → k < length v → getD (store at v l) (at + k) d ≡ getD v k d
-    getD-store-inside k d h =
-        sym (getD-drop at _ k d) ∙ sym (getD-take (length v) _ k d h) ∙ ap (λ r. getD r k d) part-store
 
     -- a part in front of what is stored, and one behind
     pub part-store-before : (m n : ℕ) → m + n ≤ at → take n (drop m (store at v l)) ≡ take n (drop m l)
@@ -203,28 +194,24 @@ module _ {A : Type 0} where
 
 -- ---- number
 
-pub number-zero : (f : ℕ → Bool) (i : ℕ) → number f i 0 ≡ 0
-unfolding number
+pub number-zero : (f : ℕ → Bool) (i : ℕ) → countIf f i 0 ≡ 0
+unfolding countIf
 number-zero f i = refl
 
-pub number-suc : (f : ℕ → Bool) (i n : ℕ) → number f i (suc n) ≡ cond (f i) (suc (number f (suc i) n)) (number f (suc i) n)
-unfolding number
+number-suc : (f : ℕ → Bool) (i n : ℕ) → countIf f i (suc n) ≡ cond (f i) (suc (countIf f (suc i) n)) (countIf f (suc i) n)
+unfolding countIf
 number-suc f i n = refl
 
-pub number-no : (f : ℕ → Bool) (i n : ℕ) → f i ≡ false → number f i (suc n) ≡ number f (suc i) n
-unfolding number
+number-no : (f : ℕ → Bool) (i n : ℕ) → f i ≡ false → countIf f i (suc n) ≡ countIf f (suc i) n
+unfolding countIf
 number-no f i n e = simp e
 
-pub number-yes : (f : ℕ → Bool) (i n : ℕ) → f i ≡ true → number f i (suc n) ≡ suc (number f (suc i) n)
-unfolding number
-number-yes f i n e = simp e
-
 -- one index more at the end
-pub number-last : (f : ℕ → Bool) (i n : ℕ) → number f i (suc n) ≡ cond (f (i + n)) (suc (number f i n)) (number f i n)
+pub number-last : (f : ℕ → Bool) (i n : ℕ) → countIf f i (suc n) ≡ cond (f (i + n)) (suc (countIf f i n)) (countIf f i n)
 number-last f i zero = number-suc f i 0 ∙ simp (number-zero, add-zero)
 number-last f i (suc n) =
     let e : suc i + n ≡ i + suc n = omega arith in
-    number-suc f i (suc n) ∙ rw (number-last f (suc i) n, e, number-suc f i n) (swap (f i) (f (i + suc n)) (number f (suc i) n))
+    number-suc f i (suc n) ∙ rw (number-last f (suc i) n, e, number-suc f i n) (swap (f i) (f (i + suc n)) (countIf f (suc i) n))
   where
     swap : (a b : Bool) (k : ℕ) → cond a (suc (cond b (suc k) k)) (cond b (suc k) k) ≡ cond b (suc (cond a (suc k) k)) (cond a (suc k) k)
     swap true true k = refl
@@ -232,16 +219,16 @@ number-last f i (suc n) =
     swap false true k = refl
     swap false false k = refl
 
-pub number-ext : (f g : ℕ → Bool) (i j n : ℕ) → ((k : ℕ) → k < n → f (i + k) ≡ g (j + k)) → number f i n ≡ number g j n
+pub number-ext : (f g : ℕ → Bool) (i j n : ℕ) → ((k : ℕ) → k < n → f (i + k) ≡ g (j + k)) → countIf f i n ≡ countIf g j n
 number-ext f g i j zero h = number-zero f i ∙ sym (number-zero g j)
 number-ext f g i j (suc n) h =
     let here : f i ≡ g j = ap f (omega arith) ∙ h 0 (omega arith) ∙ ap g (omega arith) in
-    let rest : number f (suc i) n ≡ number g (suc j) n =
+    let rest : countIf f (suc i) n ≡ countIf g (suc j) n =
     number-ext f g (suc i) (suc j) n (λ k l. ap f (omega arith) ∙ h (suc k) (omega arith) ∙ ap g (omega arith)) in
     number-suc f i n ∙ rw (here, rest) (sym (number-suc g j n))
 
 -- no more than are tried
-pub number-bound : (f : ℕ → Bool) (i n : ℕ) → number f i n ≤ n
+pub number-bound : (f : ℕ → Bool) (i n : ℕ) → countIf f i n ≤ n
 number-bound f i zero = rw number-zero (omega arith)
 number-bound f i (suc n) = rw number-suc (go (f i) (number-bound f (suc i) n))
   where
@@ -250,7 +237,7 @@ number-bound f i (suc n) = rw number-suc (go (f i) (number-bound f (suc i) n))
     go false h = omega arith
 
 -- of two tests that never pass together: as many pass one or the other as pass each
-pub number-add : (f g h : ℕ → Bool) (i n : ℕ) → ((k : ℕ) → h k ≡ f k || g k) → ((k : ℕ) → f k ≡ true → g k ≡ false) → number f i n + number g i n ≡ number h i n
+pub number-add : (f g h : ℕ → Bool) (i n : ℕ) → ((k : ℕ) → h k ≡ f k || g k) → ((k : ℕ) → f k ≡ true → g k ≡ false) → countIf f i n + countIf g i n ≡ countIf h i n
 number-add f g h i zero e d = rw (number-zero f i, number-zero g i, number-zero h i)
 number-add f g h i (suc n) e d =
     let ih = number-add f g h (suc i) n e d in
@@ -259,6 +246,6 @@ number-add f g h i (suc n) e d =
     (λ p. rw (p, d i p) (omega arith))
     (λ p. rw p (byCases (g i) (λ q. rw q (omega arith)) (λ q. rw q ih))))
 
-pub number-none : (f : ℕ → Bool) (i n : ℕ) → ((k : ℕ) → f k ≡ false) → number f i n ≡ 0
+pub number-none : (f : ℕ → Bool) (i n : ℕ) → ((k : ℕ) → f k ≡ false) → countIf f i n ≡ 0
 number-none f i zero e = number-zero f i
 number-none f i (suc n) e = number-no f i n (e i) ∙ number-none f (suc i) n e

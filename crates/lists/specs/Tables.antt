@@ -26,6 +26,6 @@ unfoldable pub coded : ℕ → List ℕ → ℕ → Bool
 coded v l i = eqb (getD l i 0) v
 
 -- how many of i, i + 1, .., n numbers, pass
-unfoldable pub number : (ℕ → Bool) → ℕ → ℕ → ℕ
-number f i zero = 0
-number f i (suc n) = let k : ℕ = number f (suc i) n in cond (f i) (suc k) k
+unfoldable pub countIf : (ℕ → Bool) → ℕ → ℕ → ℕ
+countIf f i zero = 0
+countIf f i (suc n) = let k : ℕ = countIf f (suc i) n in cond (f i) (suc k) k

@@ -1,14 +1,15 @@
-// Tests over a list, lists made by index, a part of a list stored anew, counting. The code here reads and stores one element of an array.
+// Tests over a list, lists made by index, a part of a list stored anew, counting. The code here reads and stores one element of an
+// array.
 ghost use mathlib.Core.Path.{_≡_};
 ghost use Prim.Native.Nat.{_<_};
 ghost use lib.ListN.{length, getD, set};
 
 // A number of an array that has it.
-pub fn at(list: &[u32], i: usize) -> usize
+pub fn at(list: &[u32], i: usize) -> u32
     requires { ⌜ i < length (now list) ⌝ }
     ensures { λ r. ⌜ r ≡ getD (now (list .entry)) i 0 ⌝ }
 {
-    list[i] as usize
+    list[i]
 }
 
 // A number of an array; 0 behind its end.
@@ -32,11 +33,4 @@ pub fn set_code(codes: &mut [u8], i: usize, v: u8)
     if i < codes.len() {
         codes[i] = v;
     }
-}
-
-// A number of 16 bits as an index.
-pub fn wide(x: u16) -> usize
-    ensures { λ r. ⌜ r ≡ x ⌝ }
-{
-    x as usize
 }

@@ -28,7 +28,7 @@ module _ (r : ℕ → ℕ → Bool) (w : ℕ → ℕ → Amount → Amount → B
   byKind-untagged i (abort t s) = refl
   byKind-untagged i (other t s) = refl
 
-  pub byKind-of : (s : ℕ) → ((v y : ℕ) → r v y ≡ true → s ≡ v) → ((v y : ℕ) (b d : Amount) → w v y b d ≡ true → s ≡ v) → ((v : ℕ) → c v ≡ true → s ≡ v) → ((v : ℕ) → a v ≡ true → s ≡ v)
+  byKind-of : (s : ℕ) → ((v y : ℕ) → r v y ≡ true → s ≡ v) → ((v y : ℕ) (b d : Amount) → w v y b d ≡ true → s ≡ v) → ((v : ℕ) → c v ≡ true → s ≡ v) → ((v : ℕ) → a v ≡ true → s ≡ v)
       → OfTx (byKind r w c a) s
   byKind-of s f g h k (read t v y) e = f v y e
   byKind-of s f g h k (write t v y b d) e = g v y b d e
@@ -36,7 +36,7 @@ module _ (r : ℕ → ℕ → Bool) (w : ℕ → ℕ → Amount → Amount → B
   byKind-of s f g h k (abort t v) e = k v e
   byKind-of s f g h k (other t v) e = clash e refl
 
-  pub byKind-mono : (r' : ℕ → ℕ → Bool) (w' : ℕ → ℕ → Amount → Amount → Bool) (c' a' : ℕ → Bool) → ((v y : ℕ) → r v y ≡ true → r' v y ≡ true) → ((v y : ℕ) (b d : Amount) → w v y b d ≡ true → w' v y b d ≡ true)
+  byKind-mono : (r' : ℕ → ℕ → Bool) (w' : ℕ → ℕ → Amount → Amount → Bool) (c' a' : ℕ → Bool) → ((v y : ℕ) → r v y ≡ true → r' v y ≡ true) → ((v y : ℕ) (b d : Amount) → w v y b d ≡ true → w' v y b d ≡ true)
       → ((v : ℕ) → c v ≡ true → c' v ≡ true) → ((v : ℕ) → a v ≡ true → a' v ≡ true) → (o : Op) → byKind r w c a o ≡ true → byKind r' w' c' a' o ≡ true
   byKind-mono r' w' c' a' f g h k (read t v y) e = f v y e
   byKind-mono r' w' c' a' f g h k (write t v y b d) e = g v y b d e

@@ -18,7 +18,7 @@ use Rattle.model.specs.Rules.{mismatched}
 use Rattle.model.specs.Undo.{Upto, all, more}
 use Rattle.model.proofs.Amounts.{same-refl}
 use Rattle.model.proofs.Legal.{LegalStep, Legal}
-use Rattle.model.proofs.Repair.{legal-ends, stand-unwritten, write-writes}
+use Rattle.model.proofs.Repair.{legal-ends, stand-unwritten, unwritten-by}
 use Rattle.model.proofs.Opening.{current-written, current-step}
 
 -- ---- the chain
@@ -163,7 +163,7 @@ applied-unwritten : (r : Op) (p : History) (x : ℕ) (v : Amount) → any (write
 applied-unwritten (read t s y) p x v n h = refl
 applied-unwritten (write t s y b a) p x v n h = rw h
 applied-unwritten (commit t s) p x v n h = refl
-applied-unwritten (abort t s) p x v n h = ap (λ w. beforeIn w v) (first-none (writeOf s x) p (write-writes x s p n))
+applied-unwritten (abort t s) p x v n h = ap (λ w. beforeIn w v) (first-none (writeOf s x) p (unwritten-by x s p n))
 applied-unwritten (other t s) p x v n h = refl
 
 -- one operation more leaves the opening amount, if the first write of the item has it as its before image

@@ -10,10 +10,10 @@ use Rattle.lists.proofs.BoolLaws.{byCases, or-left, and-left, and-right}
 use Rattle.lists.proofs.SearchLaws.{any-none, keep-keep}
 use Rattle.lists.proofs.MemberLaws.{member-append}
 use Rattle.model.specs.History.{Op, History, read, write, commit, abort, other, txOf, commitOf, committed}
-use Rattle.model.specs.Undo.{Upto, all, fed, fedBy, reached, surviving, only, survivors}
+use Rattle.model.specs.Undo.{Upto, all, readsFrom, byMember, reached, surviving, only, survivors}
 use Rattle.model.proofs.Ends.{tail-ends, EndsLast, commit-of}
-use Rattle.model.proofs.Closure.{fedBy-agree, member-cond, reached-list, reached-skip, reached-closed, reached-least}
-use Rattle.model.proofs.Removal.{any-only, fed-surviving, same-feed-copy}
+use Rattle.model.proofs.Closure.{byMember-agree, member-cond, reached-list, reached-skip, reached-closed, reached-least}
+use Rattle.model.proofs.Removal.{any-only, readsFrom-surviving, readsFrom-copy}
 
 module _ (φ : Op → Bool) (a b : List ℕ) (j : History) (c : EndsLast j) where
   listed-in : (s : ℕ) → surviving φ a j s ≡ true → member s b ≡ member s (a ++ b)
@@ -28,25 +28,25 @@ module _ (φ : Op → Bool) (a b : List ℕ) (j : History) (c : EndsLast j) wher
   step : (r : Op) (p : History) → Upto (r ∷ p) j → surviving φ a j (txOf r) ≡ true → Same p
       → (s : ℕ) → surviving φ a j s ≡ true → member s (reached φ b (r ∷ only (surviving φ a j) p)) ≡ member s (reached φ (a ++ b) (r ∷ p))
   step (read t v x) p i e ih s h =
-      rw (same-feed-copy φ a j c i e, fedBy-agree (reached φ b (only (surviving φ a j) p)) (reached φ (a ++ b) p) (fed φ p v x) (λ w q. ih (txOf w) (fed-surviving φ a j c i e q)))
-      (member-cond s v _ _ (fedBy (reached φ (a ++ b) p) (fed φ p v x)) (ih s h))
+      rw (readsFrom-copy φ a j c i e, byMember-agree (reached φ b (only (surviving φ a j) p)) (reached φ (a ++ b) p) (readsFrom φ p v x) (λ w q. ih (txOf w) (readsFrom-surviving φ a j c i e q)))
+      (member-cond s v _ _ (byMember (reached φ (a ++ b) p) (readsFrom φ p v x)) (ih s h))
   step (write t v x d f) p i e ih s h = ih s h
   step (commit t v) p i e ih s h = ih s h
   step (abort t v) p i e ih s h = ih s h
   step (other t v) p i e ih s h = ih s h
 
-  same-taint : (p : History) → Upto p j → Same p
-  same-taint [] i s h = listed-in s h
-  same-taint (r ∷ p) i s h =
+  same-reached : (p : History) → Upto p j → Same p
+  same-reached [] i s h = listed-in s h
+  same-reached (r ∷ p) i s h =
       byCases (surviving φ a j (txOf r))
-      (λ e. rw e (step r p i e (same-taint p (tail-ends i)) s h))
-      (λ e. rw e (same-taint p (tail-ends i) s h ∙ sym (reached-skip φ (a ++ b) s r p (ne-eqb s (txOf r) λ q. false≢true (sym e ∙ ap (surviving φ a j) (sym q) ∙ h)))))
+      (λ e. rw e (step r p i e (same-reached p (tail-ends i)) s h))
+      (λ e. rw e (same-reached p (tail-ends i) s h ∙ sym (reached-skip φ (a ++ b) s r p (ne-eqb s (txOf r) λ q. false≢true (sym e ∙ ap (surviving φ a j) (sym q) ∙ h)))))
 
   -- what a list takes back, a longer list takes back
   pub more-undone : (s : ℕ) → committed j s ≡ true → member s (reached φ a j) ≡ true → member s (reached φ (a ++ b) j) ≡ true
   more-undone =
       reached-least φ a j (λ s. member s (reached φ (a ++ b) j) ≡ true)
-      (record { lists = λ s h. reached-list φ (a ++ b) s j (member-append s a b ∙ or-left (member s a) _ h); draws = λ i k e m. reached-closed φ (a ++ b) c i e m })
+      (record { lists = λ s h. reached-list φ (a ++ b) s j (member-append s a b ∙ or-left (member s a) _ h); readers = λ i k e m. reached-closed φ (a ++ b) c i e m })
 
   pub surviving-less : (s : ℕ) → surviving φ (a ++ b) j s ≡ true → surviving φ a j s ≡ true
   surviving-less s h =
@@ -57,15 +57,15 @@ module _ (φ : Op → Bool) (a b : List ℕ) (j : History) (c : EndsLast j) wher
   not-surviving : (s : ℕ) → surviving φ a j s ≡ false → surviving φ (a ++ b) j s ≡ false
   not-surviving s e = byCases (surviving φ (a ++ b) j s) (λ h. absurd (false≢true (sym e ∙ surviving-less s h))) (λ h. h)
 
-  not-mine : (s : ℕ) (r : Op) → surviving φ a j s ≡ false → surviving φ a j (txOf r) ≡ true → commitOf s r ≡ false
-  not-mine s r e h = byCases (commitOf s r) (λ q. absurd (false≢true (sym e ∙ ap (surviving φ a j) (commit-of s r q) ∙ h))) (λ q. q)
+  not-own : (s : ℕ) (r : Op) → surviving φ a j s ≡ false → surviving φ a j (txOf r) ≡ true → commitOf s r ≡ false
+  not-own s r e h = byCases (commitOf s r) (λ q. absurd (false≢true (sym e ∙ ap (surviving φ a j) (commit-of s r q) ∙ h))) (λ q. q)
 
   -- the transactions kept by the second are those that the one keeps
   pub surviving-joined : (s : ℕ) → surviving φ b (survivors φ a j) s ≡ surviving φ (a ++ b) j s
   surviving-joined s =
       byCases (surviving φ a j s)
-      (λ e. rw (any-only (surviving φ a j) (commitOf s) s (commit-of s) e j, same-taint j all s e))
-      (λ e. rw (any-none (commitOf s) (λ r. surviving φ a j (txOf r)) (λ r h. not-mine s r e h) j) (sym (not-surviving s e)))
+      (λ e. rw (any-only (surviving φ a j) (commitOf s) s (commit-of s) e j, same-reached j all s e))
+      (λ e. rw (any-none (commitOf s) (λ r. surviving φ a j (txOf r)) (λ r h. not-own s r e h) j) (sym (not-surviving s e)))
 
   -- and the copy is the same
   pub survivors-joined : survivors φ b (survivors φ a j) ≡ survivors φ (a ++ b) j

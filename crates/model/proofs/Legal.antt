@@ -6,7 +6,7 @@ use mathlib.Core.Bool.{false}
 use mathlib.Core.List.{[], _∷_}
 use Prim.Native.Nat.{ℕ}
 use Rattle.model.specs.History.{Op, History, Amount, read, write, commit, abort, other, txOf, ended, current}
-use Rattle.model.specs.Rules.{crossed, blind}
+use Rattle.model.specs.Rules.{conflicting, blind}
 
 -- the standing amount, where item x begins at o x
 abbrev pub stand : (ℕ → Amount) → History → ℕ → Amount
@@ -21,8 +21,8 @@ Right o p (other t s) = Unit {0}
 
 -- operation r may follow p
 pub record LegalStep (o : ℕ → Amount) (p : History) (r : Op) : Type 0 where
-  pub closed : ended p (txOf r) ≡ false
-  pub uncrossed : crossed p r ≡ false
+  pub notTerminated : ended p (txOf r) ≡ false
+  pub notConflicting : conflicting p r ≡ false
   pub right : Right o p r
 
 abbrev pub Legal : (ℕ → Amount) → History → Type 0
@@ -30,6 +30,6 @@ Legal o [] = Unit {0}
 Legal o (r ∷ p) = Legal o p × LegalStep o p r
 
 -- rule 8: each write follows a read of the item by its transaction
-abbrev pub Sighted : History → Type 0
-Sighted [] = Unit {0}
-Sighted (r ∷ p) = Sighted p × (blind p r ≡ false)
+abbrev pub NoBlindWrites : History → Type 0
+NoBlindWrites [] = Unit {0}
+NoBlindWrites (r ∷ p) = NoBlindWrites p × (blind p r ≡ false)

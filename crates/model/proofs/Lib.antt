@@ -1,6 +1,6 @@
 pub mod Amounts
 pub mod Ends
-pub mod FedLaws
+pub mod ReadsFromLaws
 pub mod Closure
 pub mod Removal
 pub mod Legal

@@ -12,7 +12,7 @@ use Rattle.lists.specs.Search.{any, first}
 use Rattle.lists.proofs.BoolLaws.{byCases, or-left, clash}
 use Rattle.lists.proofs.SearchLaws.{any-mono, first-none, first-old}
 use Rattle.model.specs.History.{Op, History, Amount, Tag, sameAmount, read, write, commit, abort, other, txOf, ofTx, writeOf, writeTo, endOf, committed, ended, active, beforeIn, applied, current, initial, standing}
-use Rattle.model.specs.Rules.{crossed, mismatched}
+use Rattle.model.specs.Rules.{conflicting, mismatched}
 use Rattle.model.specs.Undo.{Upto, all, more, only, replayed}
 use Rattle.model.proofs.Amounts.{same-refl, same-eq}
 use Rattle.model.proofs.Ends.{OfTx, end-of, write-of, tail-ends, any-ends, EndsLast, committed-unaborted}
@@ -36,8 +36,8 @@ current-written d e (r ∷ p) x h = applied-written r p x _ _ h (current-written
 -- ---- rules 6, 7 and 9 as conditions
 
 pub record Passes (p : History) (r : Op) : Type 0 where
-  pub closed : ended p (txOf r) ≡ false
-  pub uncrossed : crossed p r ≡ false
+  pub notTerminated : ended p (txOf r) ≡ false
+  pub notConflicting : conflicting p r ≡ false
   pub matched : mismatched p r ≡ false
 
 pub data Passing : History → Type 0 where
@@ -46,7 +46,7 @@ pub data Passing : History → Type 0 where
 
 pub passing-ends : {p : History} → Passing p → EndsLast p
 passing-ends start = tt
-passing-ends (step k l) = (passing-ends k, l .closed)
+passing-ends (step k l) = (passing-ends k, l .notTerminated)
 
 -- the opening amounts of j, where the table has t
 abbrev pub opening : (ℕ → Amount) → History → ℕ → Amount
@@ -64,11 +64,11 @@ module _ (t : ℕ → Amount) (j : History) where
       (λ n. sym (stand-unwritten (opening t j) x p n ∙ ap (λ w. beforeIn w (t x)) (first-upto (writeTo x) i (eq-eqb x x refl) n)))
 
   legalStep-passes : (r : Op) (p : History) → Upto (r ∷ p) j → Passes p r → LegalStep (opening t j) p r
-  legalStep-passes (read g s x) p i k = record { closed = k .closed; uncrossed = k .uncrossed; right = tt }
-  legalStep-passes (write g s x b a) p i k = record { closed = k .closed; uncrossed = k .uncrossed; right = right-write g s x b a p i (k .matched) }
-  legalStep-passes (commit g s) p i k = record { closed = k .closed; uncrossed = k .uncrossed; right = tt }
-  legalStep-passes (abort g s) p i k = record { closed = k .closed; uncrossed = k .uncrossed; right = tt }
-  legalStep-passes (other g s) p i k = record { closed = k .closed; uncrossed = k .uncrossed; right = tt }
+  legalStep-passes (read g s x) p i k = record { notTerminated = k .notTerminated; notConflicting = k .notConflicting; right = tt }
+  legalStep-passes (write g s x b a) p i k = record { notTerminated = k .notTerminated; notConflicting = k .notConflicting; right = right-write g s x b a p i (k .matched) }
+  legalStep-passes (commit g s) p i k = record { notTerminated = k .notTerminated; notConflicting = k .notConflicting; right = tt }
+  legalStep-passes (abort g s) p i k = record { notTerminated = k .notTerminated; notConflicting = k .notConflicting; right = tt }
+  legalStep-passes (other g s) p i k = record { notTerminated = k .notTerminated; notConflicting = k .notConflicting; right = tt }
 
   legal-upto : (p : History) → Upto p j → Passing p → Legal (opening t j) p
   legal-upto [] i start = tt
@@ -89,8 +89,8 @@ module _ (o : ℕ → Amount) where
   mismatched-legal (abort g s) p k = refl
   mismatched-legal (other g s) p k = refl
 
-  pub passes-legal : (r : Op) (p : History) → LegalStep o p r → Passes p r
-  passes-legal r p k = record { closed = k .closed; uncrossed = k .uncrossed; matched = mismatched-legal r p k }
+  passes-legal : (r : Op) (p : History) → LegalStep o p r → Passes p r
+  passes-legal r p k = record { notTerminated = k .notTerminated; notConflicting = k .notConflicting; matched = mismatched-legal r p k }
 
   -- what is legal passes
   pub passing-legal : (p : History) → Legal o p → Passing p
@@ -109,17 +109,17 @@ pub left-stands : (k : ℕ → Bool) (o : ℕ → Amount) (j : History) → Ends
 left-stands k o j c h x = replayed-only k (o x) x j (λ s e. committed-unaborted s j c (h s e))
 
 -- every transaction with an operation has an end
-abbrev pub Finished : History → Type 0
-Finished j = (s : ℕ) → active j s ≡ false
+abbrev pub AllEnded : History → Type 0
+AllEnded j = (s : ℕ) → active j s ≡ false
 
 no-op : (f : Op → Bool) (s : ℕ) → OfTx f s → (j : History) → any (ofTx s) j ≡ false → any f j ≡ false
 no-op f s h j n = byCases (any f j) (λ q. clash (any-mono f (ofTx s) (λ r e. eq-eqb s (txOf r) (h r e)) j q) n) (λ q. q)
 
-pub finished-ended : (j : History) → Finished j → (s : ℕ) → any (ofTx s) j ≡ true → ended j s ≡ true
+finished-ended : (j : History) → AllEnded j → (s : ℕ) → any (ofTx s) j ≡ true → ended j s ≡ true
 finished-ended j f s e = not-false (ended j s) (rw e at (f s))
 
 -- with every transaction finished, an item stands where the committed writes set it
-pub finished-stand : (o : ℕ → Amount) (j : History) → Legal o j → Finished j → (s : ℕ) → any (ofTx s) j ≡ false → (x : ℕ)
+pub finished-stand : (o : ℕ → Amount) (j : History) → Legal o j → AllEnded j → (s : ℕ) → any (ofTx s) j ≡ false → (x : ℕ)
     → stand o j x ≡ replayed (committed j) (o x) j x
 finished-stand o j k f s n x =
     inv o x j k .amount s (no-op (endOf s) s (end-of s) j n)

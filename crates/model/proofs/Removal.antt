@@ -10,9 +10,9 @@ use Rattle.lists.specs.Search.{any, member}
 use Rattle.lists.proofs.BoolLaws.{byCases, and-left, and-right, and-both}
 use Rattle.lists.proofs.SearchLaws.{any-keep}
 use Rattle.model.specs.History.{Op, History, Tag, read, txOf, commitOf, committed, aborted}
-use Rattle.model.specs.Undo.{Upto, fed, reached, undone, surviving, only}
+use Rattle.model.specs.Undo.{Upto, readsFrom, reached, undone, surviving, only}
 use Rattle.model.proofs.Ends.{OfTx, tail-ends, any-ends, EndsLast, committed-unaborted}
-use Rattle.model.proofs.FedLaws.{fed-tx, fed-only}
+use Rattle.model.proofs.ReadsFromLaws.{readsFrom-tx, readsFrom-only}
 use Rattle.model.proofs.Closure.{reached-closed}
 
 pub any-only : (k : ℕ → Bool) (f : Op → Bool) (s : ℕ) → OfTx f s → k s ≡ true → (p : History) → any f (only k p) ≡ any f p
@@ -28,8 +28,8 @@ module _ (φ : Op → Bool) (l : List ℕ) (j : History) (c : EndsLast j) where
   surviving-unaborted s h = committed-unaborted s j c (and-left (committed j s) _ h)
 
   -- what feeds a read of a kept transaction is a write of a kept transaction
-  pub fed-surviving : {t : Tag} {s x : ℕ} {p : History} {w : Op} → Upto (read t s x ∷ p) j → surviving φ l j s ≡ true → fed φ p s x ≡ some w → surviving φ l j (txOf w) ≡ true
-  fed-surviving {t} {s} {x} {p} {w} i h e =
+  pub readsFrom-surviving : {t : Tag} {s x : ℕ} {p : History} {w : Op} → Upto (read t s x ∷ p) j → surviving φ l j s ≡ true → readsFrom φ p s x ≡ some w → surviving φ l j (txOf w) ≡ true
+  readsFrom-surviving {t} {s} {x} {p} {w} i h e =
       ⊎-elim
       (λ (g : s ≡ txOf w). rw (← g) h)
       (λ (g : committed p (txOf w) ≡ true).
@@ -37,12 +37,12 @@ module _ (φ : Op → Bool) (l : List ℕ) (j : History) (c : EndsLast j) where
       (byCases (member (txOf w) (reached φ l j))
       (λ m. let n = reached-closed φ l c i e m in let q = and-right (committed j s) _ h in cc)
       (λ m. rw m)))
-      (fed-tx φ p s x e)
+      (readsFrom-tx φ p s x e)
 
   -- the reads of the kept transactions are fed by the same write where the transactions taken back are removed
-  pub same-feed : {t : Tag} {s x : ℕ} {p : History} → Upto (read t s x ∷ p) j → surviving φ l j s ≡ true → fed φ (only (λ v. not (undone φ l j v)) p) s x ≡ fed φ p s x
-  same-feed {t} {s} {x} {p} i h = fed-only φ (λ v. not (undone φ l j v)) s x p (λ w e. surviving-stays (committed j (txOf w)) _ (fed-surviving i h e))
+  pub readsFrom-without : {t : Tag} {s x : ℕ} {p : History} → Upto (read t s x ∷ p) j → surviving φ l j s ≡ true → readsFrom φ (only (λ v. not (undone φ l j v)) p) s x ≡ readsFrom φ p s x
+  readsFrom-without {t} {s} {x} {p} i h = readsFrom-only φ (λ v. not (undone φ l j v)) s x p (λ w e. surviving-stays (committed j (txOf w)) _ (readsFrom-surviving i h e))
 
   -- and so in the copy
-  pub same-feed-copy : {t : Tag} {s x : ℕ} {p : History} → Upto (read t s x ∷ p) j → surviving φ l j s ≡ true → fed φ (only (surviving φ l j) p) s x ≡ fed φ p s x
-  same-feed-copy {t} {s} {x} {p} i h = fed-only φ (surviving φ l j) s x p (λ w e. fed-surviving i h e)
+  pub readsFrom-copy : {t : Tag} {s x : ℕ} {p : History} → Upto (read t s x ∷ p) j → surviving φ l j s ≡ true → readsFrom φ (only (surviving φ l j) p) s x ≡ readsFrom φ p s x
+  readsFrom-copy {t} {s} {x} {p} i h = readsFrom-only φ (surviving φ l j) s x p (λ w e. readsFrom-surviving i h e)

@@ -11,10 +11,10 @@ use Rattle.lists.specs.Search.{any, latest, orElse, first, member}
 use Rattle.lists.proofs.BoolLaws.{byCases}
 use Rattle.model.specs.History.{Op, History, Amount, Tag, read, write, commit, abort, other, txOf, tagOf, beforeOf, unread, never, ofTx, readOf, writeOf, writeTo, accessTo, commitOf, endOf, committed, ended, beforeIn, applied, current}
 use Rattle.model.specs.Rules.{byOther, blind}
-use Rattle.model.specs.Undo.{retag, Untagged, Feeding, feedBy, sees, fed, fedBy, reached, surviving, only, renumber, repaired}
+use Rattle.model.specs.Undo.{retag, Untagged, SourceTest, sourceBy, visibleTo, readsFrom, byMember, reached, surviving, only, renumber, repaired}
 use Rattle.model.proofs.Ends.{byKind-untagged}
-use Rattle.model.proofs.FedLaws.{fed-by}
-use Rattle.model.proofs.Legal.{LegalStep, Legal, Sighted}
+use Rattle.model.proofs.ReadsFromLaws.{readsFrom-by}
+use Rattle.model.proofs.Legal.{LegalStep, Legal, NoBlindWrites}
 use Rattle.model.proofs.Extension.{Numbered}
 
 pub txOf-retag : (i : Tag) (r : Op) → txOf (retag i r) ≡ txOf r
@@ -38,11 +38,11 @@ length-renumber [] = refl
 length-renumber (r ∷ p) = ap suc (length-renumber p)
 
 -- the two operations are there or not together, and differ in the record number at most
-pub data Like : Option Op → Option Op → Type 0 where
+data Like : Option Op → Option Op → Type 0 where
   neither : Like none none
   both : (i : Tag) (r : Op) → Like (some (retag i r)) (some r)
 
-pub latest-renumber : (f : Op → Bool) → Untagged f → (p : History) → Like (latest f (renumber p)) (latest f p)
+latest-renumber : (f : Op → Bool) → Untagged f → (p : History) → Like (latest f (renumber p)) (latest f p)
 latest-renumber f u [] = neither
 latest-renumber f u (r ∷ p) = byCases (f r) (λ e. rw (u (suc (length p)) r, e) (both _ r)) (λ e. rw (u (suc (length p)) r, e) (latest-renumber f u p))
 
@@ -50,7 +50,7 @@ like-orElse : {a b c d : Option Op} → Like a b → Like c d → Like (orElse a
 like-orElse neither m = m
 like-orElse (both i r) m = both i r
 
-pub first-renumber : (f : Op → Bool) → Untagged f → (p : History) → Like (first f (renumber p)) (first f p)
+first-renumber : (f : Op → Bool) → Untagged f → (p : History) → Like (first f (renumber p)) (first f p)
 first-renumber f u [] = neither
 first-renumber f u (r ∷ p) =
     byCases (f r)
@@ -64,17 +64,17 @@ beforeOf-retag i (commit t s) d = refl
 beforeOf-retag i (abort t s) d = refl
 beforeOf-retag i (other t s) d = refl
 
-pub beforeIn-like : {a b : Option Op} → Like a b → (d : Amount) → beforeIn a d ≡ beforeIn b d
+beforeIn-like : {a b : Option Op} → Like a b → (d : Amount) → beforeIn a d ≡ beforeIn b d
 beforeIn-like neither d = refl
 beforeIn-like (both i r) d = beforeOf-retag i r d
 
-pub fedBy-like : (l : List ℕ) {a b : Option Op} → Like a b → fedBy l a ≡ fedBy l b
-fedBy-like l neither = refl
-fedBy-like l (both i r) = ap (λ s. member s l) (txOf-retag i r)
+byMember-like : (l : List ℕ) {a b : Option Op} → Like a b → byMember l a ≡ byMember l b
+byMember-like l neither = refl
+byMember-like l (both i r) = ap (λ s. member s l) (txOf-retag i r)
 
 -- ---- items
 
-pub applied-renumber : (i : Tag) (r : Op) (p : History) (x : ℕ) (v : Amount) → applied (retag i r) (renumber p) x v ≡ applied r p x v
+applied-renumber : (i : Tag) (r : Op) (p : History) (x : ℕ) (v : Amount) → applied (retag i r) (renumber p) x v ≡ applied r p x v
 applied-renumber i (read t s y) p x v = refl
 applied-renumber i (write t s y b a) p x v = refl
 applied-renumber i (commit t s) p x v = refl
@@ -101,16 +101,16 @@ byOther-renumber f u p s =
     ∙ any-renumber (λ r. f r && (not (eqb s (txOf r)) && not (ended p (txOf r)))) (λ i r. rw (u i r, txOf-retag i r)) p
 
 legalStep-renumber : (o : ℕ → Amount) (i : Tag) (p : History) (r : Op) → LegalStep o p r → LegalStep o (renumber p) (retag i r)
-legalStep-renumber o i p (read t s x) k = record { closed = ended-renumber p s ∙ k .closed; uncrossed = byOther-renumber (writeTo x) (byKind-untagged _ _ _ _) p s ∙ k .uncrossed; right = tt }
+legalStep-renumber o i p (read t s x) k = record { notTerminated = ended-renumber p s ∙ k .notTerminated; notConflicting = byOther-renumber (writeTo x) (byKind-untagged _ _ _ _) p s ∙ k .notConflicting; right = tt }
 legalStep-renumber o i p (write t s x b a) k =
     record {
-      closed = ended-renumber p s ∙ k .closed;
-      uncrossed = byOther-renumber (accessTo x) (byKind-untagged _ _ _ _) p s ∙ k .uncrossed;
+      notTerminated = ended-renumber p s ∙ k .notTerminated;
+      notConflicting = byOther-renumber (accessTo x) (byKind-untagged _ _ _ _) p s ∙ k .notConflicting;
       right = k .right ∙ sym (current-renumber (o x) p x);
     }
-legalStep-renumber o i p (commit t s) k = record { closed = ended-renumber p s ∙ k .closed; uncrossed = refl; right = tt }
-legalStep-renumber o i p (abort t s) k = record { closed = ended-renumber p s ∙ k .closed; uncrossed = refl; right = tt }
-legalStep-renumber o i p (other t s) k = record { closed = ended-renumber p s ∙ k .closed; uncrossed = refl; right = tt }
+legalStep-renumber o i p (commit t s) k = record { notTerminated = ended-renumber p s ∙ k .notTerminated; notConflicting = refl; right = tt }
+legalStep-renumber o i p (abort t s) k = record { notTerminated = ended-renumber p s ∙ k .notTerminated; notConflicting = refl; right = tt }
+legalStep-renumber o i p (other t s) k = record { notTerminated = ended-renumber p s ∙ k .notTerminated; notConflicting = refl; right = tt }
 
 pub legal-renumber : (o : ℕ → Amount) (p : History) → Legal o p → Legal o (renumber p)
 legal-renumber o [] k = tt
@@ -123,33 +123,33 @@ blind-renumber i p (commit t s) = refl
 blind-renumber i p (abort t s) = refl
 blind-renumber i p (other t s) = refl
 
-pub sighted-renumber : (p : History) → Sighted p → Sighted (renumber p)
-sighted-renumber [] g = tt
-sighted-renumber (r ∷ p) g = (sighted-renumber p (g .0), blind-renumber (suc (length p)) p r ∙ g .1)
+pub noBlind-renumber : (p : History) → NoBlindWrites p → NoBlindWrites (renumber p)
+noBlind-renumber [] g = tt
+noBlind-renumber (r ∷ p) g = (noBlind-renumber p (g .0), blind-renumber (suc (length p)) p r ∙ g .1)
 
 -- ---- the undo set
 
-module _ (φ : Op → Bool) (law : Feeding φ) where
+module _ (φ : Op → Bool) (law : SourceTest φ) where
   -- what feeds is found by one test, which does not look at record numbers
-  pub fed-found : (p : History) (s x : ℕ) → (f : Op → Bool) × Untagged f × (fed φ p s x ≡ latest f p) × (fed φ (renumber p) s x ≡ latest f (renumber p))
-  fed-found p s x = (
-    feedBy φ (sees p s) x,
-    λ i r. rw (byKind-untagged unread (λ v y b a. eqb x y && sees p s v) never never i r, law .untagged i r),
-    fed-by φ (sees p s) p s x (λ v q. refl),
-    fed-by φ (sees p s) (renumber p) s x (λ v q. ap (λ c. eqb s v || c) (committed-renumber p v)),
+  pub readsFrom-found : (p : History) (s x : ℕ) → (f : Op → Bool) × Untagged f × (readsFrom φ p s x ≡ latest f p) × (readsFrom φ (renumber p) s x ≡ latest f (renumber p))
+  readsFrom-found p s x = (
+    sourceBy φ (visibleTo p s) x,
+    λ i r. rw (byKind-untagged unread (λ v y b a. eqb x y && visibleTo p s v) never never i r, law .untagged i r),
+    readsFrom-by φ (visibleTo p s) p s x (λ v q. refl),
+    readsFrom-by φ (visibleTo p s) (renumber p) s x (λ v q. ap (λ c. eqb s v || c) (committed-renumber p v)),
   )
 
-  pub fed-renumber : (p : History) (s x : ℕ) → Like (fed φ (renumber p) s x) (fed φ p s x)
-  fed-renumber p s x = let (f, u, e, e') = fed-found p s x in rw (e, e') (latest-renumber f u p)
+  readsFrom-renumber : (p : History) (s x : ℕ) → Like (readsFrom φ (renumber p) s x) (readsFrom φ p s x)
+  readsFrom-renumber p s x = let (f, u, e, e') = readsFrom-found p s x in rw (e, e') (latest-renumber f u p)
 
   reached-cond : (i : Tag) (l : List ℕ) (r : Op) (p : History) → reached φ l (renumber p) ≡ reached φ l p → reached φ l (retag i r ∷ renumber p) ≡ reached φ l (r ∷ p)
-  reached-cond i l (read t s x) p h = rw (h, fedBy-like (reached φ l p) (fed-renumber p s x))
+  reached-cond i l (read t s x) p h = rw (h, byMember-like (reached φ l p) (readsFrom-renumber p s x))
   reached-cond i l (write t s x b a) p h = h
   reached-cond i l (commit t s) p h = h
   reached-cond i l (abort t s) p h = h
   reached-cond i l (other t s) p h = h
 
-  pub reached-renumber : (l : List ℕ) (p : History) → reached φ l (renumber p) ≡ reached φ l p
+  reached-renumber : (l : List ℕ) (p : History) → reached φ l (renumber p) ≡ reached φ l p
   reached-renumber l [] = refl
   reached-renumber l (r ∷ p) = reached-cond (suc (length p)) l r p (reached-renumber l p)
 
@@ -171,7 +171,7 @@ length-only-renumber k (r ∷ p) =
     (λ e. rw (txOf-retag (suc (length p)) r, e) (length-only-renumber k p))
 
 -- a selection of renumbered records, renumbered, is the selection renumbered
-pub renumber-only : (k : ℕ → Bool) (p : History) → renumber (only k (renumber p)) ≡ renumber (only k p)
+renumber-only : (k : ℕ → Bool) (p : History) → renumber (only k (renumber p)) ≡ renumber (only k p)
 renumber-only k [] = refl
 renumber-only k (r ∷ p) =
     byCases (k (txOf r))
@@ -179,7 +179,7 @@ renumber-only k (r ∷ p) =
     (λ e. rw (txOf-retag (suc (length p)) r, e) (renumber-only k p))
 
 -- a take-back of the renumbered history leaves the same
-pub repaired-renumber : (φ : Op → Bool) → Feeding φ → (l : List ℕ) (p : History) → repaired φ l (renumber p) ≡ repaired φ l p
+pub repaired-renumber : (φ : Op → Bool) → SourceTest φ → (l : List ℕ) (p : History) → repaired φ l (renumber p) ≡ repaired φ l p
 repaired-renumber φ law l p = ap (λ k. renumber (only k (renumber p))) (fun-ext (surviving-renumber φ law l p)) ∙ renumber-only (surviving φ l p) p
 
 -- ---- record numbers of a renumbered history

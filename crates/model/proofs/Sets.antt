@@ -9,20 +9,20 @@ use Rattle.lists.proofs.BoolLaws.{byCases, or-left, or-right, or-cases, and-lef
 use Rattle.lists.proofs.SearchLaws.{any-none}
 use Rattle.lists.proofs.MemberLaws.{member-append, member-keep}
 use Rattle.model.specs.History.{Op, History, read, write, commit, abort, other, txOf, abortOf, committed, aborted}
-use Rattle.model.specs.Undo.{fed, fedBy, reached, undone, surviving, survivors}
+use Rattle.model.specs.Undo.{readsFrom, byMember, reached, undone, surviving, survivors}
 use Rattle.model.proofs.Ends.{EndsLast, abort-of}
-use Rattle.model.proofs.Closure.{fedBy-agree, member-cond, reached-list, reached-closed, reached-least}
+use Rattle.model.proofs.Closure.{byMember-agree, member-cond, reached-list, reached-closed, reached-least}
 use Rattle.model.proofs.Removal.{any-only, surviving-unaborted}
 use Rattle.model.proofs.Join.{more-undone}
 
 -- ---- the same members
 
-pub reached-cong : (φ : Op → Bool) (l m : List ℕ) → ((s : ℕ) → member s l ≡ member s m) → (j : History) (s : ℕ) → member s (reached φ l j) ≡ member s (reached φ m j)
+reached-cong : (φ : Op → Bool) (l m : List ℕ) → ((s : ℕ) → member s l ≡ member s m) → (j : History) (s : ℕ) → member s (reached φ l j) ≡ member s (reached φ m j)
 reached-cong φ l m h [] s = h s
 reached-cong φ l m h (read t v x ∷ p) s =
     let ih = reached-cong φ l m h p in
-    rw (fedBy-agree (reached φ l p) (reached φ m p) (fed φ p v x) (λ w q. ih (txOf w)))
-    (member-cond s v (reached φ l p) (reached φ m p) (fedBy (reached φ m p) (fed φ p v x)) (ih s))
+    rw (byMember-agree (reached φ l p) (reached φ m p) (readsFrom φ p v x) (λ w q. ih (txOf w)))
+    (member-cond s v (reached φ l p) (reached φ m p) (byMember (reached φ m p) (readsFrom φ p v x)) (ih s))
 reached-cong φ l m h (write t v x b a ∷ p) s = reached-cong φ l m h p s
 reached-cong φ l m h (commit t v ∷ p) s = reached-cong φ l m h p s
 reached-cong φ l m h (abort t v ∷ p) s = reached-cong φ l m h p s
@@ -65,16 +65,16 @@ module _ (φ : Op → Bool) (a l : List ℕ) (j : History) (c : EndsLast j) wher
       (λ u. reached-list φ (a ++ rest) s j (rw (member-append s a rest) (or-right (member s a) _ (member-keep (λ s. not (undone φ a j s)) s l ∙ and-both _ _ (not-of-false _ u) e)))))
 
   -- the names that were struck change nothing
-  pub surviving-struck : (s : ℕ) → surviving φ (a ++ keep (λ v. not (undone φ a j v)) l) j s ≡ surviving φ (a ++ l) j s
+  pub surviving-remaining : (s : ℕ) → surviving φ (a ++ keep (λ v. not (undone φ a j v)) l) j s ≡ surviving φ (a ++ l) j s
   unfolding rest
-  surviving-struck s =
+  surviving-remaining s =
       byCases (committed j s)
       (λ k. ap (λ m. committed j s && not m)
       (same-truth _ _
       (λ e. reached-least φ (a ++ rest) j (λ v. member v (reached φ (a ++ l) j) ≡ true)
-      (record { lists = λ v h. reached-list φ (a ++ l) v j (keep-lists v h); draws = λ i q e m. reached-closed φ (a ++ l) c i e m }) s k e)
+      (record { lists = λ v h. reached-list φ (a ++ l) v j (keep-lists v h); readers = λ i q e m. reached-closed φ (a ++ l) c i e m }) s k e)
       (λ e. reached-least φ (a ++ l) j (λ v. member v (reached φ (a ++ rest) j) ≡ true)
-      (record { lists = lists-keep; draws = λ i q e m. reached-closed φ (a ++ rest) c i e m }) s k e)))
+      (record { lists = lists-keep; readers = λ i q e m. reached-closed φ (a ++ rest) c i e m }) s k e)))
       (λ k. rw k)
 
 -- the kept records have no rollback

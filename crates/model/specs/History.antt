@@ -68,7 +68,8 @@ afterOf (other t s) d = d
 
 -- ---- tests on one operation
 
--- A test by kind: of reads by transaction and item, of writes by transaction, item and images, of commits and of aborts by transaction.
+-- A test by kind: of reads by transaction and item, of writes by transaction, item and images, of commits and of aborts by
+-- transaction.
 -- Nothing else passes.
 abbrev pub byKind : (ℕ → ℕ → Bool) → (ℕ → ℕ → Amount → Amount → Bool) → (ℕ → Bool) → (ℕ → Bool) → Op → Bool
 byKind r w c a (read t s x) = r s x

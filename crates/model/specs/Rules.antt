@@ -5,19 +5,20 @@ use Prim.Native.Nat.{ℕ}
 use lib.IntN.{pos}
 use lib.Dec.{eqb}
 use Rattle.lists.specs.Search.{any}
-use Rattle.model.specs.History.{Op, History, sameAmount, txOf, byKind, unread, never, readOf, writeTo, accessTo, ended, standing}
+use Rattle.model.specs.History.{Op, History, sameAmount, txOf, byKind, unread, never, readOf, writeTo, accessTo, ended}
+use Rattle.model.specs.History.{standing}
 
 -- 6 closed: the transaction already has an end
-abbrev pub closed : History → Op → Bool
-closed p r = ended p (txOf r)
+abbrev pub terminated : History → Op → Bool
+terminated p r = ended p (txOf r)
 
 -- another transaction than s, open after p, has an operation that passes
 abbrev pub byOther : (Op → Bool) → History → ℕ → Bool
 byOther f p s = any (λ r. f r && (not (eqb s (txOf r)) && not (ended p (txOf r)))) p
 
 -- 7 crossed: a read or write of an item that another open transaction has written, or a write of one that it has read
-abbrev pub crossed : History → Op → Bool
-crossed p = byKind (λ s x. byOther (writeTo x) p s) (λ s x b a. byOther (accessTo x) p s) never never
+abbrev pub conflicting : History → Op → Bool
+conflicting p = byKind (λ s x. byOther (writeTo x) p s) (λ s x b a. byOther (accessTo x) p s) never never
 
 -- 8 blind: a write with no earlier read of the item by its transaction
 abbrev pub blind : History → Op → Bool

@@ -8,7 +8,8 @@ use Prim.Native.Nat.{ℕ, suc}
 use lib.ListN.{length}
 use lib.Dec.{eqb}
 use Rattle.lists.specs.Search.{keep, latest, member}
-use Rattle.model.specs.History.{Op, History, Amount, Tag, read, write, commit, abort, other, txOf, byKind, unread, never, committed}
+use Rattle.model.specs.History.{Op, History, Amount, Tag, read, write, commit, abort, other, txOf, byKind, unread, never}
+use Rattle.model.specs.History.{committed}
 
 -- ---- record numbers
 
@@ -24,14 +25,15 @@ retag i (other t s) = other i s
 abbrev pub Untagged : (Op → Bool) → Type 0
 Untagged f = (i : Tag) (r : Op) → f (retag i r) ≡ f r
 
--- ---- which writes may feed
+-- ---- which writes may feed (the field: be the source of a read)
 
--- Document 01: every write. This is the one test that the calls and the statements give to what follows; only its laws look into it.
-unfoldable pub feeds : Op → Bool
-feeds = byKind unread (λ s x b a. true) never never
+-- Document 01: every write. This is the one test that the calls and the statements give to what follows; only its laws look into
+-- it.
+unfoldable pub isSource : Op → Bool
+isSource = byKind unread (λ s x b a. true) never never
 
 -- what such a test has to meet: a write that may not feed leaves the amount as it was
-pub record Feeding (φ : Op → Bool) : Type 0 where
+pub record SourceTest (φ : Op → Bool) : Type 0 where
   pub untagged : Untagged φ
   pub still : (t : Tag) (s x : ℕ) (b a : Amount) → φ (write t s x b a) ≡ false → b ≡ a
 
@@ -42,12 +44,12 @@ abbrev pub writeBy : (ℕ → Bool) → ℕ → Op → Bool
 writeBy g x = byKind unread (λ v y b a. eqb x y && g v) never never
 
 -- one that may feed
-abbrev pub feedBy : (Op → Bool) → (ℕ → Bool) → ℕ → Op → Bool
-feedBy φ g x w = writeBy g x w && φ w
+abbrev pub sourceBy : (Op → Bool) → (ℕ → Bool) → ℕ → Op → Bool
+sourceBy φ g x w = writeBy g x w && φ w
 
 -- the transactions whose writes may feed a read by s after p: s itself and those already committed
-abbrev pub sees : History → ℕ → ℕ → Bool
-sees p s v = eqb s v || committed p v
+abbrev pub visibleTo : History → ℕ → ℕ → Bool
+visibleTo p s v = eqb s v || committed p v
 
 -- ---- the taken-back set
 
@@ -57,9 +59,9 @@ pub data Upto (p : History) : History → Type 0 where
   more : {q : Op} {j : History} → Upto p j → Upto p (q ∷ j)
 
 -- whether there is a feeding write, and by a transaction of the list
-abbrev pub fedBy : List ℕ → Option Op → Bool
-fedBy l none = false
-fedBy l (some w) = member (txOf w) l
+abbrev pub byMember : List ℕ → Option Op → Bool
+byMember l none = false
+byMember l (some w) = member (txOf w) l
 
 -- the committed transactions in a list, and those not in it
 abbrev pub committedIn : List ℕ → History → ℕ → Bool
@@ -71,19 +73,20 @@ committedOut m j s = committed j s && not (member s m)
 -- φ w: the write w may feed
 module _ (φ : Op → Bool) where
   -- 01: fed: the write that feeds a read of x by s after p, the highest of them; none: the opening amount
-  unfoldable pub fed : History → ℕ → ℕ → Option Op
-  fed p s x = latest (feedBy φ (sees p s) x) p
+  unfoldable pub readsFrom : History → ℕ → ℕ → Option Op
+  readsFrom p s x = latest (sourceBy φ (visibleTo p s) x) p
 
   -- a set that contains the bad list, and every committed transaction with a read fed by a write of a member
   pub record Closed (bad : List ℕ) (j : History) (S : ℕ → Type 0) : Type 0 where
     pub lists : (s : ℕ) → member s bad ≡ true → S s
-    pub draws : {t : Tag} {s x : ℕ} {p : History} {w : Op} → Upto (read t s x ∷ p) j → committed j s ≡ true → fed p s x ≡ some w
+    pub readers : {t : Tag} {s x : ℕ} {p : History} {w : Op} → Upto (read t s x ∷ p) j → committed j s ≡ true
+        → readsFrom p s x ≡ some w
         → S (txOf w) → S s
 
   -- The set as one pass over the records computes it: the listed transactions, and each with a read fed by one of them.
   abbrev pub reached : List ℕ → History → List ℕ
   reached bad [] = bad
-  reached bad (read t s x ∷ p) = let m : List ℕ = reached bad p in cond (fedBy m (fed p s x)) (s ∷ m) m
+  reached bad (read t s x ∷ p) = let m : List ℕ = reached bad p in cond (byMember m (readsFrom p s x)) (s ∷ m) m
   reached bad (write t s x b a ∷ p) = reached bad p
   reached bad (commit t s ∷ p) = reached bad p
   reached bad (abort t s ∷ p) = reached bad p

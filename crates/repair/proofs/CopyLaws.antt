@@ -22,14 +22,11 @@ use Rattle.journal.specs.Journal.{txIn, records}
 use Rattle.journal.specs.Copy.{headWith, linkedTo, encoded}
 use Rattle.journal.proofs.Encoded.{length-encoded}
 use Rattle.repair.specs.Copying.{rank, Ranked, moved, movedAll, copyBytes, copyWith, copyStep, copyFrom}
-use Rattle.repair.proofs.RankLaws.{rank-kept, rank-le}
+use Rattle.repair.proofs.RankLaws.{rank-surviving, rank-le}
 
 -- ---- one record
 
-module _ (b fates ranks out : List ℕ) (i s v : ℕ) (r : Record) (e : r ≡ recordAt b i) (u : s ≡ txIn r) (p : v ≡ getD fates s 0) where
-  q : v ≡ getD fates (txIn r) 0
-  q = p ∙ rw u
-
+module _ (b fates ranks out : List ℕ) (i v : ℕ) (r : Record) (e : r ≡ recordAt b i) (q : v ≡ getD fates (txIn r) 0) where
   pub copy-idle : (v ≡ 1 → ⊥) → out ≡ copyStep b fates ranks i out
   unfolding copyStep coded
   copy-idle h = rw (← e, ← q, ne-eqb v 1 h)
@@ -56,17 +53,17 @@ module _ (b fates ranks : List ℕ) where
   length-moved zero = refl
   length-moved (suc i) = byCases (coded 1 fates (txIn (recordAt b (suc i)))) (λ e. rw e (ap suc (length-moved i))) (λ e. rw e (length-moved i))
 
-  pub length-bytes : (i : ℕ) → length (copyBytes b fates ranks i) ≡ 20 * rank (coded 1 fates) b i
+  pub length-copyBytes : (i : ℕ) → length (copyBytes b fates ranks i) ≡ 20 * rank (coded 1 fates) b i
   unfolding copyBytes
-  length-bytes i = length-encoded (movedAll (coded 1 fates) ranks (records b i)) ∙ ap (λ k. 20 * k) (length-moved i)
+  length-copyBytes i = length-encoded (movedAll (coded 1 fates) ranks (records b i)) ∙ ap (λ k. 20 * k) (length-moved i)
 
   bytes-zero : copyBytes b fates ranks 0 ≡ []
   unfolding copyBytes records movedAll encoded
   bytes-zero = refl
 
-  bytes-kept : (i : ℕ) → coded 1 fates (txIn (recordAt b (suc i))) ≡ true → copyBytes b fates ranks (suc i) ≡ copyBytes b fates ranks i ++ bytesOf (moved ranks (recordAt b (suc i)))
+  bytes-surviving : (i : ℕ) → coded 1 fates (txIn (recordAt b (suc i))) ≡ true → copyBytes b fates ranks (suc i) ≡ copyBytes b fates ranks i ++ bytesOf (moved ranks (recordAt b (suc i)))
   unfolding copyBytes encoded
-  bytes-kept i e = ap encoded (moved-suc i) ∙ rw e
+  bytes-surviving i e = ap encoded (moved-suc i) ∙ rw e
 
   bytes-other : (i : ℕ) → coded 1 fates (txIn (recordAt b (suc i))) ≡ false → copyBytes b fates ranks (suc i) ≡ copyBytes b fates ranks i
   unfolding copyBytes
@@ -79,7 +76,7 @@ module _ (b fates ranks : List ℕ) where
       whole : (k : ℕ) (l : List ℕ) → l ≡ lib.ListN.take k l ++ [] ++ lib.ListN.drop (k + 0) l
       whole k l = let z : k + 0 ≡ k = omega arith in rw (z, append-nil) (sym (lib.ListN.take-append-drop k l))
 
-  module _ (n : ℕ) (r : Ranked b fates n ranks) (i : ℕ) (h : i < n) (old : List ℕ) (f : 20 * getD ranks n 0 + 20 ≤ length old) where
+  module _ (n : ℕ) (r : Ranked b fates n ranks) (i : ℕ) (h : i < n) (old : List ℕ) (f : 20 * (getD ranks n 0 + 1) ≤ length old) where
     rank-here : getD ranks (suc i) 0 ≡ rank (coded 1 fates) b (suc i)
     rank-here = r .at (suc i) h
 
@@ -87,18 +84,18 @@ module _ (b fates ranks : List ℕ) where
     within = rw (r .at n (omega arith)) (rank-le (coded 1 fates) b i n (omega arith))
 
     fits : 20 + length (copyBytes b fates ranks i) ≤ length old
-    fits = omega (arith, length-bytes i, within)
+    fits = omega (arith, length-copyBytes i, within)
 
     copy-more : (out : List ℕ) → out ≡ store 20 (copyBytes b fates ranks i) old → copyStep b fates ranks (suc i) out ≡ store 20 (copyBytes b fates ranks (suc i)) old
     unfolding copyStep
     copy-more out e =
         byCases (coded 1 fates (txIn (recordAt b (suc i))))
-        (λ c. let p : 20 * getD ranks (suc i) 0 ≡ 20 + length (copyBytes b fates ranks i) = omega (arith, rank-here, rank-kept (coded 1 fates) b i c, length-bytes i) in
-        rw (c, bytes-kept i c, p, e) (store-store 20 (copyBytes b fates ranks i) old fits (bytesOf (moved ranks (recordAt b (suc i))))))
+        (λ c. let p : 20 * getD ranks (suc i) 0 ≡ 20 + length (copyBytes b fates ranks i) = omega (arith, rank-here, rank-surviving (coded 1 fates) b i c, length-copyBytes i) in
+        rw (c, bytes-surviving i c, p, e) (store-store 20 (copyBytes b fates ranks i) old fits (bytesOf (moved ranks (recordAt b (suc i))))))
         (λ c. rw (c, bytes-other i c) e)
 
   -- there is room for the next
-  pub copy-room : (n i : ℕ) (out old : List ℕ) → Ranked b fates n ranks → i < n → 20 * getD ranks n 0 + 20 ≤ length old → length out ≡ length old → 20 * getD ranks (i + 1) 0 + 20 ≤ length out
+  pub copy-room : (n i : ℕ) (out old : List ℕ) → Ranked b fates n ranks → i < n → 20 * (getD ranks n 0 + 1) ≤ length old → length out ≡ length old → 20 * (getD ranks (i + 1) 0 + 1) ≤ length out
   copy-room n i out old r h f e =
       let z : getD ranks (i + 1) 0 ≡ rank (coded 1 fates) b (suc i) = ap (λ k. getD ranks k 0) (add-one i) ∙ r .at (suc i) h in
       omega (arith, r .at n (omega arith), rank-le (coded 1 fates) b (suc i) n h)
@@ -117,14 +114,14 @@ module _ (b fates ranks : List ℕ) where
   pass-done n i old out h l e = let z : n ≡ i = omega arith in rw z e
 
   -- the records that it writes stand behind the head
-  passed : (n : ℕ) → Ranked b fates n ranks → (old : List ℕ) → 20 * getD ranks n 0 + 20 ≤ length old → (i : ℕ) → i ≤ n → copyFrom b fates ranks i old ≡ store 20 (copyBytes b fates ranks i) old
+  passed : (n : ℕ) → Ranked b fates n ranks → (old : List ℕ) → 20 * (getD ranks n 0 + 1) ≤ length old → (i : ℕ) → i ≤ n → copyFrom b fates ranks i old ≡ store 20 (copyBytes b fates ranks i) old
   unfolding copyFrom
   passed n r old f zero h = copy-start old
   passed n r old f (suc i) h = copy-more n r i (omega arith) old f (copyFrom b fates ranks i old) (passed n r old f i (omega arith))
 
 -- ---- the head, and the records behind it
 
-pub copied-all : (b fates ranks out part new : List ℕ) (n m k : ℕ) → Ranked b fates n ranks → 20 * getD ranks n 0 + 20 ≤ length out → k ≡ getD ranks n 0 → part ≡ bytesOf (headWith k m) → new ≡ copyFrom b fates ranks n (putMid 0 20 out part)
+pub copied-all : (b fates ranks out part new : List ℕ) (n m k : ℕ) → Ranked b fates n ranks → 20 * (getD ranks n 0 + 1) ≤ length out → k ≡ getD ranks n 0 → part ≡ bytesOf (headWith k m) → new ≡ copyFrom b fates ranks n (putMid 0 20 out part)
     → new ≡ store 0 (copyWith b fates ranks n m) out
 unfolding copyWith
 copied-all b fates ranks out part new n m k r h c p q =

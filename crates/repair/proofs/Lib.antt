@@ -1,4 +1,4 @@
 pub mod RankLaws
 pub mod CopyLaws
-pub mod RestoreLaws
+pub mod ReplayLaws
 pub mod Repaired

@@ -38,8 +38,8 @@ module _ (k : ℕ → Bool) (b : List ℕ) where
   unfolding rank
   rank-suc n = refl
 
-  pub rank-kept : (n : ℕ) → k (txIn (recordAt b (suc n))) ≡ true → rank k b (suc n) ≡ suc (rank k b n)
-  rank-kept n e = rank-suc n ∙ rw e
+  pub rank-surviving : (n : ℕ) → k (txIn (recordAt b (suc n))) ≡ true → rank k b (suc n) ≡ suc (rank k b n)
+  rank-surviving n e = rank-suc n ∙ rw e
 
   pub rank-other : (n : ℕ) → k (txIn (recordAt b (suc n))) ≡ false → rank k b (suc n) ≡ rank k b n
   rank-other n e = rank-suc n ∙ rw e
@@ -47,7 +47,7 @@ module _ (k : ℕ → Bool) (b : List ℕ) where
   rank-step : (n : ℕ) → (rank k b n ≤ rank k b (suc n)) × (rank k b (suc n) ≤ suc (rank k b n))
   rank-step n =
       byCases (k (txIn (recordAt b (suc n))))
-      (λ e. (omega (arith, rank-kept n e), omega (arith, rank-kept n e)))
+      (λ e. (omega (arith, rank-surviving n e), omega (arith, rank-surviving n e)))
       (λ e. (omega (arith, rank-other n e), omega (arith, rank-other n e)))
 
   pub rank-le : (i n : ℕ) → i ≤ n → rank k b i ≤ rank k b n
@@ -69,9 +69,9 @@ module _ (k : ℕ → Bool) (b : List ℕ) where
       rw (txOf-opOf (suc n) (recordAt b (suc n)))
       (byCases (k (txIn (recordAt b (suc n)))) (λ e. rw e (ap suc (length-only n))) (λ e. rw e (length-only n)))
 
-  only-kept : (n : ℕ) → k (txIn (recordAt b (suc n))) ≡ true → only k (history b (suc n)) ≡ opOf (suc n) (recordAt b (suc n)) ∷ only k (history b n)
+  only-surviving : (n : ℕ) → k (txIn (recordAt b (suc n))) ≡ true → only k (history b (suc n)) ≡ opOf (suc n) (recordAt b (suc n)) ∷ only k (history b n)
   unfolding history
-  only-kept n e = rw (txOf-opOf (suc n) (recordAt b (suc n)), e)
+  only-surviving n e = rw (txOf-opOf (suc n) (recordAt b (suc n)), e)
 
   only-other : (n : ℕ) → k (txIn (recordAt b (suc n))) ≡ false → only k (history b (suc n)) ≡ only k (history b n)
   unfolding history
@@ -82,16 +82,16 @@ module _ (k : ℕ → Bool) (b : List ℕ) where
   later-rank i n e =
       byCases (ltb i (suc n))
       (λ q. let h = ltb-true i (suc n) q in
-      lt-ltb (rank k b i) (rank k b (suc n)) (omega (arith, rank-kept n e, rank-le i n (omega arith))) ∙ sym q)
+      lt-ltb (rank k b i) (rank k b (suc n)) (omega (arith, rank-surviving n e, rank-le i n (omega arith))) ∙ sym q)
       (λ q. let h = ltb-false i (suc n) q in
       le-ltb (rank k b i) (rank k b (suc n)) (rank-le (suc n) i h) ∙ sym q)
 
   tag-rank : (n : ℕ) → k (txIn (recordAt b (suc n))) ≡ true → suc (length (only k (history b n))) ≡ rank k b (suc n)
-  tag-rank n e = ap suc (length-only n) ∙ sym (rank-kept n e)
+  tag-rank n e = ap suc (length-only n) ∙ sym (rank-surviving n e)
 
   module _ (i s : ℕ) (h : k s ≡ true) where
-    Kept : ℕ → History
-    Kept n = renumber (only k (history b n))
+    Surviving : ℕ → History
+    Surviving n = renumber (only k (history b n))
 
     later-is : (n : ℕ) → k (txIn (recordAt b (suc n))) ≡ true
         → laterOf (rank k b i) s (retag (suc (length (only k (history b n)))) (opOf (suc n) (recordAt b (suc n)))) ≡ laterOf i s (opOf (suc n) (recordAt b (suc n)))
@@ -105,12 +105,12 @@ module _ (k : ℕ → Bool) (b : List ℕ) where
         let z : eqb s (txIn (recordAt b (suc n))) ≡ false = ne-eqb s _ (λ q. clash (rw q at h) e) in
         rw (txOf-opOf (suc n) (recordAt b (suc n)), z)
 
-    any-later : (n : ℕ) → any (laterOf (rank k b i) s) (Kept n) ≡ any (laterOf i s) (history b n)
-    unfolding Kept
+    any-later : (n : ℕ) → any (laterOf (rank k b i) s) (Surviving n) ≡ any (laterOf i s) (history b n)
+    unfolding Surviving
     any-later zero = rw history-zero
     any-later (suc n) =
         byCases (k (txIn (recordAt b (suc n))))
-        (λ e. ap (λ q. any (laterOf (rank k b i) s) (renumber q)) (only-kept n e) ∙ or-cong (later-is n e) (any-later n) ∙ sym (ap (any (laterOf i s)) (history-suc b n)))
+        (λ e. ap (λ q. any (laterOf (rank k b i) s) (renumber q)) (only-surviving n e) ∙ or-cong (later-is n e) (any-later n) ∙ sym (ap (any (laterOf i s)) (history-suc b n)))
         (λ e. ap (λ q. any (laterOf (rank k b i) s) (renumber q)) (only-other n e) ∙ any-later n ∙ sym (ap (any (laterOf i s)) (history-suc b n) ∙ or-cong (later-other n e) refl))
 
     one-later : (f f' : Op → Bool) (r r' : Op) (p p' : History) → any f p ≡ false → any f' p' ≡ false → f' r' ≡ f r → tagOf r' ≡ rank k b (tagOf r)
@@ -121,16 +121,16 @@ module _ (k : ℕ → Bool) (b : List ℕ) where
 
     -- the next in the copy is the rank of the next
     pub next-rank : (n : ℕ) → nextIn (renumber (only k (history b n))) (rank k b i) s ≡ rank k b (nextIn (history b n) i s)
-    unfolding Kept
+    unfolding Surviving
     next-rank zero = rw history-zero (sym rank-zero)
     next-rank (suc n) =
         let o = opOf (suc n) (recordAt b (suc n)) in
         byCases (k (txIn (recordAt b (suc n))))
-        (λ e. ap (λ q. nextIn (renumber q) (rank k b i) s) (only-kept n e)
+        (λ e. ap (λ q. nextIn (renumber q) (rank k b i) s) (only-surviving n e)
         ∙ byCases (any (laterOf i s) (history b n))
-        (λ q. ap tagIn (first-old (laterOf (rank k b i) s) (retag (suc (length (only k (history b n)))) o) (Kept n) (any-later n ∙ q))
+        (λ q. ap tagIn (first-old (laterOf (rank k b i) s) (retag (suc (length (only k (history b n)))) o) (Surviving n) (any-later n ∙ q))
         ∙ next-rank n ∙ sym (ap (λ w. rank k b (tagIn w)) (first-old (laterOf i s) o (history b n) q)))
-        (λ q. one-later (laterOf i s) (laterOf (rank k b i) s) o (retag (suc (length (only k (history b n)))) o) (history b n) (Kept n) q (any-later n ∙ q) (later-is n e)
+        (λ q. one-later (laterOf i s) (laterOf (rank k b i) s) o (retag (suc (length (only k (history b n)))) o) (history b n) (Surviving n) q (any-later n ∙ q) (later-is n e)
         (tagOf-retag (suc (length (only k (history b n)))) o ∙ tag-rank n e ∙ ap (rank k b) (sym (tagOf-opOf (suc n) (recordAt b (suc n))))))
         ∙ sym (ap (λ h. rank k b (nextIn h i s)) (history-suc b n)))
         (λ e. ap (λ q. nextIn (renumber q) (rank k b i) s) (only-other n e) ∙ next-rank n
@@ -148,25 +148,25 @@ module _ (b fates : List ℕ) where
       let l : length {A = ℕ} (replicate 3201 0) ≡ 3201 = length-replicate {A = ℕ} 3201 0 in
       zeros-front 3200 (f 0) (rank-zero (coded 1 fates) b) ∙ ap (λ z. set z 0 (f 0)) (partly-start f (replicate 3201 0)) ∙ partly-step f (replicate 3201 0) 0 (omega arith)
 
-  pub kept-start : 0 ≡ rank (coded 1 fates) b 0
-  kept-start = sym (rank-zero (coded 1 fates) b)
+  pub rank-start : 0 ≡ rank (coded 1 fates) b 0
+  rank-start = sym (rank-zero (coded 1 fates) b)
 
   -- one record more
-  pub next-raised : (n kept v t r m : ℕ) → t ≡ txIn (recordAt b (n + 1)) → r ≡ t → v ≡ getD fates r 0 → m ≡ cond (eqb v 1) (kept + 1) kept → m ≡ cond (coded 1 fates (txIn (recordAt b (n + 1)))) (kept + 1) kept
+  pub next-raised : (n surviving v t m : ℕ) → t ≡ txIn (recordAt b (n + 1)) → v ≡ getD fates t 0 → m ≡ cond (eqb v 1) (surviving + 1) surviving → m ≡ cond (coded 1 fates (txIn (recordAt b (n + 1)))) (surviving + 1) surviving
   unfolding coded
-  next-raised n kept v t r m a z c e = e ∙ rw (c, z, a)
+  next-raised n surviving v t m a c e = e ∙ rw (c, a)
 
-  module _ (i kept m : ℕ) (q : kept ≡ rank (coded 1 fates) b i) (e : m ≡ cond (coded 1 fates (txIn (recordAt b (i + 1)))) (kept + 1) kept) where
-    pub kept-step : m ≡ rank (coded 1 fates) b (i + 1)
-    kept-step = e ∙ rw (q, add-one, add-one) (sym (rank-suc (coded 1 fates) b i))
+  module _ (i surviving m : ℕ) (q : surviving ≡ rank (coded 1 fates) b i) (e : m ≡ cond (coded 1 fates (txIn (recordAt b (i + 1)))) (surviving + 1) surviving) where
+    pub surviving-step : m ≡ rank (coded 1 fates) b (i + 1)
+    surviving-step = e ∙ rw (q, add-one, add-one) (sym (rank-suc (coded 1 fates) b i))
 
     pub ranks-step : (n : ℕ) (all : List ℕ) → i < n → n ≤ 3200 → all ≡ partly (rank (coded 1 fates) b) (i + 1) (replicate 3201 0) → set all (i + 1) m ≡ partly (rank (coded 1 fates) b) (i + 1 + 1) (replicate 3201 0)
     ranks-step n all h u a =
         let l : length {A = ℕ} (replicate 3201 0) ≡ 3201 = length-replicate {A = ℕ} 3201 0 in
-        rw (a, kept-step) (partly-step (rank (coded 1 fates) b) (replicate 3201 0) (i + 1) (omega arith))
+        rw (a, surviving-step) (partly-step (rank (coded 1 fates) b) (replicate 3201 0) (i + 1) (omega arith))
 
-  pub kept-few : (i kept : ℕ) → kept ≡ rank (coded 1 fates) b i → kept ≤ i
-  kept-few i kept q = rw q (rank-few (coded 1 fates) b i)
+  pub rank-at-most : (i surviving : ℕ) → surviving ≡ rank (coded 1 fates) b i → surviving ≤ i
+  rank-at-most i surviving q = rw q (rank-few (coded 1 fates) b i)
 
   pub ranks-done : (n i : ℕ) (all : List ℕ) → n ≤ 3200 → i ≤ n → n ≤ i → all ≡ partly (rank (coded 1 fates) b) (i + 1) (replicate 3201 0) → Ranked b fates n all
   ranks-done n i all f h l a =

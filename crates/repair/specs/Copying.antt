@@ -8,6 +8,7 @@ use lib.ListN.{length, getD}
 use Rattle.lists.specs.Tables.{store, coded}
 use Rattle.format.specs.declared.Record.{Record}
 use Rattle.format.specs.Layout.{recordAt, bytesOf}
+use Rattle.format.specs.Limits.{recordBytes, recordSlots}
 use Rattle.journal.specs.Journal.{txIn, records}
 use Rattle.journal.specs.Copy.{headWith, linkedTo, encoded}
 
@@ -18,7 +19,7 @@ rank k b (suc n) = let m : ℕ = rank k b n in cond (k (txIn (recordAt b (suc n)
 
 -- the ranks of records 1 to n
 pub record Ranked (b fates : List ℕ) (n : ℕ) (ranks : List ℕ) : Type 0 where
-  pub size : length ranks ≡ 3201
+  pub size : length ranks ≡ recordSlots
   pub at : (i : ℕ) → i ≤ n → getD ranks i 0 ≡ rank (coded 1 fates) b i
 
 -- a record with its next by rank
@@ -41,7 +42,8 @@ copyWith b fates ranks n m = bytesOf (headWith (getD ranks n 0) m) ++ copyBytes 
 -- what record i writes
 unfoldable pub copyStep : List ℕ → List ℕ → List ℕ → ℕ → List ℕ → List ℕ
 copyStep b fates ranks i out =
-    let r : Record = recordAt b i in cond (coded 1 fates (txIn r)) (store (20 * getD ranks i 0) (bytesOf (moved ranks r)) out) out
+    let r : Record =
+    recordAt b i in cond (coded 1 fates (txIn r)) (store (recordBytes * getD ranks i 0) (bytesOf (moved ranks r)) out) out
 
 -- what records 1 to i write
 unfoldable pub copyFrom : List ℕ → List ℕ → List ℕ → ℕ → List ℕ → List ℕ

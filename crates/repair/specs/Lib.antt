@@ -1,2 +1,2 @@
 pub mod Copying
-pub mod Restoring
+pub mod Replaying

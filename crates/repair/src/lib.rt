@@ -4,15 +4,21 @@ ghost use mathlib.Core.Bool.{cond};
 ghost use Prim.Native.Nat.{_+_, _*_, _≤_, _<_};
 ghost use lib.Dec.{eqb};
 ghost use lib.ListN.{length, getD, set};
-ghost use Rattle.lists.specs.Tables.{number, store, coded};
+ghost use Rattle.lists.specs.Tables.{countIf, store, coded};
 ghost use Rattle.format.specs.Layout.{recordAt};
+ghost use Rattle.format.specs.Limits.{journalBytes, maxRecords, maxTransaction, transactionSlots, statusBytes};
 ghost use Rattle.journal.specs.Journal.{opOf, history};
 ghost use Rattle.rules.specs.Arrays.{Ready};
 ghost use Rattle.repair.specs.Copying.{Ranked, copyWith, copyStep, copyFrom};
-ghost use Rattle.repair.specs.Restoring.{leftAfter, openedAt, tableWrite, tableAfter, seenAfter, tableFrom, seenFrom};
+ghost use Rattle.repair.specs.Replaying.{leftAfter, openedAt, tableWrite, tableAfter, seenAfter, tableFrom, seenFrom};
+use format::ITEM_SLOTS;
 use format::Key;
 use format::Lsn;
+use format::MAX_TRANSACTION;
+use format::RECORD_BYTES;
+use format::RECORD_SLOTS;
 use format::Record;
+use format::TRANSACTION_SLOTS;
 use format::TransactionId;
 use format::put_record;
 use format::record_at;
@@ -20,11 +26,11 @@ use format::transaction_at;
 use lists::code_at;
 use lists::number_at;
 use lists::set_code;
-use lists::wide;
+use rules::code_of;
 
 // One more, if the code is v.
 fn raised(count: u32, code: u8, v: u8) -> u32
-    requires { ⌜ count ≤ 3200 ⌝ }
+    requires { ⌜ count ≤ maxRecords ⌝ }
     ensures { λ r. ⌜ r ≡ cond (eqb code v) (count + 1) count ⌝ }
 {
     if code == v { count + 1 } else { count }
@@ -32,70 +38,87 @@ fn raised(count: u32, code: u8, v: u8) -> u32
 
 // How many transactions have the code v.
 pub fn number_of(codes: &[u8], v: u8) -> u32
-    ensures { λ r. ⌜ r ≡ number (coded v (now (codes .entry))) 1 1024 ⌝ }
+    ensures { λ r. ⌜ r ≡ countIf (coded v (now (codes .entry))) 1 maxTransaction ⌝ }
 {
     let mut count: u32 = 0;
-    let mut i = 0;
-    while i < 1024 {
-        i += 1;
-        count = raised(count, code_at(codes, i), v);
+    let mut s: u16 = 0;
+    while s < MAX_TRANSACTION {
+        s += 1;
+        count = raised(count, code_of(codes, TransactionId(s)), v);
     }
     count
 }
 
-// How many of the first n + 1 records are kept, where `kept` of the first n are.
-fn next_rank(journal: &[u8], n: usize, fates: &[u8], kept: u32) -> u32
-    requires { ⌜ (20 * n + 40 ≤ length (now journal)) × (n < 3200) × (kept ≤ 3200) ⌝ }
-    ensures { λ r. ⌜ r ≡ cond (coded 1 (now (fates .entry)) (recordAt (now (journal .entry)) (n + 1) .transaction .0)) (kept + 1) kept ⌝ }
+// How many of the first n + 1 records are kept, where `surviving` of the first n are.
+fn next_rank(journal: &[u8], n: u32, fates: &[u8], surviving: u32) -> u32
+    requires { ⌜ (journalBytes (n + 1) ≤ length (now journal)) × (n < maxRecords) × (surviving ≤ maxRecords) ⌝ }
+    ensures { λ r. ⌜ r
+        ≡ cond (coded 1 (now (fates .entry)) (recordAt (now (journal .entry)) (n + 1) .transaction .0))
+        (surviving + 1) surviving ⌝ }
 {
-    let s = wide(transaction_at(journal, n + 1));
-    raised(kept, code_at(fates, s), 1)
+    let s = transaction_at(journal, Lsn(n + 1));
+    raised(surviving, code_of(fates, s), 1)
 }
 
 // How many of the first i records are kept, for each i up to n.
-pub fn ranks(journal: &[u8], n: usize, fates: &[u8]) -> [u32; 3201]
-    requires { ⌜ (20 * n + 20 ≤ length (now journal)) × (n ≤ 3200) ⌝ }
+pub fn ranks(journal: &[u8], n: u32, fates: &[u8]) -> [u32; RECORD_SLOTS]
+    requires { ⌜ (journalBytes n ≤ length (now journal)) × (n ≤ maxRecords) ⌝ }
     ensures { λ r. ⌜ Ranked (now (journal .entry)) (now (fates .entry)) n r ⌝ }
 {
-    let mut all = [0u32; 3201];
-    let mut kept = 0;
+    let mut all = [0u32; RECORD_SLOTS];
+    let mut surviving = 0;
     let mut i = 0;
     while i < n {
-        kept = next_rank(journal, i, fates, kept);
+        surviving = next_rank(journal, i, fates, surviving);
         i += 1;
-        all[i] = kept;
+        let at = i as usize;
+        all[at] = surviving;
     }
     all
 }
 
-// Record n + 1 in the copy, at the place of its rank, if its transaction survives.
-fn copy_record(journal: &[u8], n: usize, fates: &[u8], ranks: &[u32], out: &mut [u8])
-    requires { ⌜ (20 * n + 40 ≤ length (now journal)) × (n < 3200) × (20 * getD (now ranks) (n + 1) 0 + 20 ≤ length (now out)) ⌝ }
-    ensures { λ _. ⌜ now (out .exit) ≡ copyStep (now (journal .entry)) (now (fates .entry)) (now (ranks .entry)) (n + 1) (now (out .entry)) ⌝ }
+// How many of the first i records are kept.
+pub fn rank_at(ranks: &[u32], i: Lsn) -> u32
+    ensures { λ r. ⌜ r ≡ getD (now (ranks .entry)) (i .0) 0 ⌝ }
 {
-    let r = record_at(journal, n + 1);
-    let fate = code_at(fates, wide(r.transaction.0));
+    number_at(ranks, i.0 as usize)
+}
+
+// Record n + 1 in the copy, at the place of its rank, if its transaction survives.
+fn copy_record(journal: &[u8], n: u32, fates: &[u8], ranks: &[u32], out: &mut [u8])
+    requires { ⌜ (journalBytes (n + 1) ≤ length (now journal)) × (n < maxRecords)
+        × (journalBytes (getD (now ranks) (n + 1) 0) ≤ length (now out)) ⌝ }
+    ensures { λ _. ⌜ now (out .exit)
+        ≡ copyStep (now (journal .entry)) (now (fates .entry)) (now (ranks .entry)) (n + 1) (now (out .entry)) ⌝ }
+{
+    let i = Lsn(n + 1);
+    let r = record_at(journal, i);
+    let fate = code_of(fates, r.transaction);
     if fate != 1 {
         return;
     }
+    let transaction = r.transaction;
+    let item = r.item;
     let moved = Record {
         kind: r.kind,
         reserved: r.reserved,
-        transaction: TransactionId(r.transaction.0),
-        next: Lsn(number_at(ranks, r.next.0 as usize)),
-        item: Key(r.item.0),
+        transaction,
+        next: Lsn(rank_at(ranks, r.next)),
+        item,
         before: r.before,
         after: r.after,
     };
-    let at = 20 * number_at(ranks, n + 1) as usize;
-    let end = at + 20;
+    let at = RECORD_BYTES * rank_at(ranks, i) as usize;
+    let end = at + RECORD_BYTES;
     put_record(&mut out[at..end], moved);
 }
 
 // The kept records of 1 to n, each at the place of its rank.
-fn copy_records(journal: &[u8], n: usize, fates: &[u8], ranks: &[u32], out: &mut [u8])
-    requires { ⌜ (20 * n + 20 ≤ length (now journal)) × (n ≤ 3200) × Ranked (now journal) (now fates) n (now ranks) × (20 * getD (now ranks) n 0 + 20 ≤ length (now out)) ⌝ }
-    ensures { λ _. ⌜ now (out .exit) ≡ copyFrom (now (journal .entry)) (now (fates .entry)) (now (ranks .entry)) n (now (out .entry)) ⌝ }
+fn copy_records(journal: &[u8], n: u32, fates: &[u8], ranks: &[u32], out: &mut [u8])
+    requires { ⌜ (journalBytes n ≤ length (now journal)) × (n ≤ maxRecords) × Ranked (now journal) (now fates) n (now ranks)
+        × (journalBytes (getD (now ranks) n 0) ≤ length (now out)) ⌝ }
+    ensures { λ _. ⌜ now (out .exit)
+        ≡ copyFrom (now (journal .entry)) (now (fates .entry)) (now (ranks .entry)) n (now (out .entry)) ⌝ }
 {
     let mut i = 0;
     while i < n {
@@ -105,114 +128,115 @@ fn copy_records(journal: &[u8], n: usize, fates: &[u8], ranks: &[u32], out: &mut
 }
 
 // The copy, at the front of `out`.
-pub fn copy(journal: &[u8], n: usize, keys: u32, fates: &[u8], ranks: &[u32], out: &mut [u8])
-    requires { ⌜ (20 * n + 20 ≤ length (now journal)) × (n ≤ 3200) × Ranked (now journal) (now fates) n (now ranks) × (20 * getD (now ranks) n 0 + 20 ≤ length (now out)) ⌝ }
-    ensures { λ _. ⌜ now (out .exit) ≡ store 0 (copyWith (now (journal .entry)) (now (fates .entry)) (now (ranks .entry)) n keys) (now (out .entry)) ⌝ }
+pub fn copy(journal: &[u8], n: u32, keys: u32, fates: &[u8], ranks: &[u32], out: &mut [u8])
+    requires { ⌜ (journalBytes n ≤ length (now journal)) × (n ≤ maxRecords) × Ranked (now journal) (now fates) n (now ranks)
+        × (journalBytes (getD (now ranks) n 0) ≤ length (now out)) ⌝ }
+    ensures { λ _. ⌜ now (out .exit)
+        ≡ store 0 (copyWith (now (journal .entry)) (now (fates .entry)) (now (ranks .entry)) n keys) (now (out .entry)) ⌝ }
 {
     let head = Record {
         kind: 0,
         reserved: 0,
         transaction: TransactionId(0),
-        next: Lsn(number_at(ranks, n)),
+        next: Lsn(rank_at(ranks, Lsn(n))),
         item: Key(keys),
         before: 0,
         after: 0,
     };
-    put_record(&mut out[0..20], head);
+    put_record(&mut out[0..RECORD_BYTES], head);
     copy_records(journal, n, fates, ranks, out);
 }
 
 // An amount in the table.
-fn set_amount(table: &mut [i32], x: usize, v: i32)
-    ensures { λ _. ⌜ now (table .exit) ≡ set (now (table .entry)) x v ⌝ }
+fn set_amount(table: &mut [i32], x: Key, v: i32)
+    ensures { λ _. ⌜ now (table .exit) ≡ set (now (table .entry)) (x .0) v ⌝ }
 {
-    if x < table.len() {
-        table[x] = v;
+    let at = x.0 as usize;
+    if at < table.len() {
+        table[at] = v;
     }
 }
 
 // The opening amount of item x, at its first write.
-fn open_item(seen: &[u8], x: usize, before: i32, table: &mut [i32])
-    ensures { λ _. ⌜ now (table .exit) ≡ openedAt (now (seen .entry)) x before (now (table .entry)) ⌝ }
+fn open_item(seen: &[u8], x: Key, before: i32, table: &mut [i32])
+    ensures { λ _. ⌜ now (table .exit) ≡ openedAt (now (seen .entry)) (x .0) before (now (table .entry)) ⌝ }
 {
-    let flag = code_at(seen, x);
+    let flag = code_at(seen, x.0 as usize);
     if flag == 0 {
         set_amount(table, x, before);
     }
 }
 
 // A write of item x by s.
-fn restore_write(
+fn replay_write(
     fates: &[u8],
     seen: &[u8],
-    s: usize,
-    x: usize,
+    s: TransactionId,
+    x: Key,
     before: i32,
     after: i32,
     table: &mut [i32],
 )
-    ensures { λ _. ⌜ now (table .exit) ≡ tableWrite (now (fates .entry)) (now (seen .entry)) s x before after (now (table .entry)) ⌝ }
+    ensures { λ _. ⌜ now (table .exit)
+        ≡ tableWrite (now (fates .entry)) (now (seen .entry)) (s .0) (x .0) before after (now (table .entry)) ⌝ }
 {
     open_item(seen, x, before, table);
-    let fate = code_at(fates, s);
+    let fate = code_of(fates, s);
     if fate == 1 {
         set_amount(table, x, after);
     }
 }
 
 // Record n + 1 in the table.
-fn restore_record(journal: &[u8], n: usize, fates: &[u8], seen: &mut [u8], table: &mut [i32])
-    requires { ⌜ (20 * n + 40 ≤ length (now journal)) × (n < 3200) ⌝ }
-    ensures { λ _. ⌜ (now (seen .exit) ≡ seenAfter (opOf (n + 1) (recordAt (now (journal .entry)) (n + 1))) (now (seen .entry))) × (now (table .exit) ≡ tableAfter (now (fates .entry)) (opOf (n + 1) (recordAt (now (journal .entry)) (n + 1))) (now (seen .entry)) (now (table .entry))) ⌝ }
+fn replay_record(journal: &[u8], n: u32, fates: &[u8], seen: &mut [u8], table: &mut [i32])
+    requires { ⌜ (journalBytes (n + 1) ≤ length (now journal)) × (n < maxRecords) ⌝ }
+    ensures { λ _. ⌜ (now (seen .exit) ≡ seenAfter (opOf (n + 1) (recordAt (now (journal .entry)) (n + 1))) (now (seen .entry)))
+        × (now (table .exit)
+        ≡ tableAfter (now (fates .entry)) (opOf (n + 1) (recordAt (now (journal .entry)) (n + 1))) (now (seen .entry))
+        (now (table .entry))) ⌝ }
 {
-    let r = record_at(journal, n + 1);
-    let x = r.item.0 as usize;
+    let r = record_at(journal, Lsn(n + 1));
     let kind = r.kind;
     match kind {
         2 => {
-            restore_write(
-                fates,
-                seen,
-                wide(r.transaction.0),
-                x,
-                r.before,
-                r.after,
-                table,
-            );
-            set_code(seen, x, 1);
+            replay_write(fates, seen, r.transaction, r.item, r.before, r.after, table);
+            set_code(seen, r.item.0 as usize, 1);
         }
         _ => {}
     }
 }
 
 // Records 1 to n in the table, from any table and any marks of the items written until then.
-pub fn restore_records(journal: &[u8], n: usize, fates: &[u8], seen: &mut [u8], table: &mut [i32])
-    requires { ⌜ (20 * n + 20 ≤ length (now journal)) × (n ≤ 3200) ⌝ }
-    ensures { λ _. ⌜ (now (seen .exit) ≡ seenFrom (history (now (journal .entry)) n) (now (seen .entry))) × (now (table .exit) ≡ tableFrom (now (fates .entry)) (history (now (journal .entry)) n) (now (seen .entry)) (now (table .entry))) ⌝ }
+pub fn replay_records(journal: &[u8], n: u32, fates: &[u8], seen: &mut [u8], table: &mut [i32])
+    requires { ⌜ (journalBytes n ≤ length (now journal)) × (n ≤ maxRecords) ⌝ }
+    ensures { λ _. ⌜ (now (seen .exit) ≡ seenFrom (history (now (journal .entry)) n) (now (seen .entry)))
+        × (now (table .exit)
+        ≡ tableFrom (now (fates .entry)) (history (now (journal .entry)) n) (now (seen .entry)) (now (table .entry))) ⌝ }
 {
     let mut i = 0;
     while i < n {
-        restore_record(journal, i, fates, seen, table);
+        replay_record(journal, i, fates, seen, table);
         i += 1;
     }
 }
 
 // The table with the opening amount of each item, then the writes of surviving transactions in order.
-pub fn restore(journal: &[u8], n: usize, fates: &[u8], table: &mut [i32])
+pub fn replay(journal: &[u8], n: u32, fates: &[u8], table: &mut [i32])
     requires { ⌜ Ready (now journal) n ⌝ }
-    ensures { λ _. ⌜ now (table .exit) ≡ leftAfter (coded 1 (now (fates .entry))) (history (now (journal .entry)) n) (now (table .entry)) ⌝ }
+    ensures { λ _. ⌜ now (table .exit)
+        ≡ leftAfter (coded 1 (now (fates .entry))) (history (now (journal .entry)) n) (now (table .entry)) ⌝ }
 {
-    let mut seen = [0u8; 1024];
-    restore_records(journal, n, fates, &mut seen, table);
+    let mut seen = [0u8; ITEM_SLOTS];
+    replay_records(journal, n, fates, &mut seen, table);
 }
 
 // The fates into the status list.
 pub fn publish(fates: &[u8], status: &mut [u8])
-    requires { ⌜ (length (now fates) ≡ 1025) × (length (now status) ≡ 1025) ⌝ }
+    requires { ⌜ (length (now fates) ≡ transactionSlots) × (length (now status) ≡ statusBytes) ⌝ }
     ensures { λ _. ⌜ now (status .exit) ≡ now (fates .entry) ⌝ }
 {
     let mut s = 0;
-    while s < 1025 {
+    while s < TRANSACTION_SLOTS {
         status[s] = fates[s];
         s += 1;
     }

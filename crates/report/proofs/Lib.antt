@@ -1,3 +1,3 @@
 pub mod OutputLaws
 pub mod PrintedLaws
-pub mod TakenLaws
+pub mod ReportLaws

@@ -1,2 +1,4 @@
 pub mod Output
+pub mod Counting
 pub mod Printed
+pub mod Certified

@@ -2,15 +2,17 @@
 -- Document 01, "The program's day". Assumes nothing.
 use mathlib.Core.Bool.{cond}
 use mathlib.Core.List.{List, [], _∷_, map, flatten}
-use Prim.Native.Nat.{ℕ, _-_, _/_}
+use Prim.Native.Nat.{ℕ}
 use lib.Dec.{eqb}
 use lib.ListN.{length, getD, replicate}
 use Rattle.lists.specs.Tables.{each}
 use Rattle.format.specs.Bytes.{entries, amount}
+use Rattle.format.specs.Limits.{maxTransaction, statusBytes, maxJournalBytes}
 use Rattle.model.specs.History.{Amount, sameAmount}
-use Rattle.journal.specs.Inputs.{Inputs, lent}
+use Rattle.journal.specs.Inputs.{Inputs, inputsOf}
 use Rattle.journal.specs.Journal.{count, amountAt}
-use Rattle.journal.specs.Calls.{Answer, refused, accepted, Counts, Undone, undo}
+use Rattle.journal.specs.Calls.{Answer, refused, accepted, UndoTotals, UndoResult, undo}
+use Rattle.demands.specs.Undoing.{copyIn}
 use Rattle.text.specs.Lines.{countLine, undoneLine, changeLine, endLine, refusedLine}
 
 -- the line of transaction s: none, if its mark is not 2
@@ -19,7 +21,7 @@ undoneIn status s = cond (eqb (getD status s 0) 2) (undoneLine s) []
 
 -- the lines of all transactions, rising
 abbrev pub undoneLines : List ℕ → List ℕ
-undoneLines status = each (undoneIn status) 1 1024
+undoneLines status = each (undoneIn status) 1 maxTransaction
 
 -- the line of item x: none, if its amount is what it was
 unfoldable pub changeIn : List Amount → List Amount → ℕ → List ℕ
@@ -29,25 +31,19 @@ changeIn old new x = cond (sameAmount (amountAt old x) (amountAt new x)) [] (cha
 abbrev pub changeLines : List Amount → List Amount → List ℕ
 changeLines old new = each (changeIn old new) 0 (length old)
 
--- transactions surviving (01: kept), undone (taken back) and aborted (dropped), and the copy's bytes
-abbrev pub countsOf : ℕ → ℕ → ℕ → ℕ → Counts
-countsOf surviving undone aborted bytes = record { surviving = surviving; undone = undone; aborted = aborted; bytes = bytes }
+-- the report of a journal of n records, by take-back's answer, the table before and after, and the statuses (01: marks); m gives
+-- the copy's record count
+unfoldable pub lines : ℕ → (UndoTotals → ℕ) → List Amount → List Amount → List ℕ → Answer UndoTotals → List ℕ
+lines n m old new status (refused number place) = refusedLine number place
+lines n m old new status (accepted c) =
+    flatten (countLine n (m c) ∷ undoneLines status ∷ changeLines old new ∷ endLine (c .surviving) (c .undone) (c .aborted) ∷ [])
 
--- the copy's records, by its bytes: 20 a record, and one is the head
-unfoldable pub copied : Counts → ℕ
-copied c = c .bytes / 20 - 1
+-- the report on a journal and the table before, by what take-back left; the copy stands at the front of the paper
+unfoldable pub linesOf : Inputs → UndoResult → List ℕ
+linesOf d r = lines (count (d .journal)) (λ c. count (copyIn r c)) (d .table) (r .table) (r .status) (r .answer)
 
--- the report of a journal of n records, by take-back's answer, the table before and after, and the statuses (01: marks)
-unfoldable pub lines : ℕ → List Amount → List Amount → List ℕ → Answer Counts → List ℕ
-lines n old new status (refused number place) = refusedLine number place
-lines n old new status (accepted c) =
-    flatten (countLine n (copied c) ∷ undoneLines status ∷ changeLines old new ∷ endLine (c .surviving) (c .undone) (c .aborted) ∷ [])
-
--- the report on a journal and the table before, by what take-back left
-unfoldable pub linesOf : Inputs → Undone → List ℕ
-linesOf d r = lines (count (d .journal)) (d .table) (r .table) (r .status) (r .answer)
-
--- the table and the bad list in their files: four bytes an amount, two bytes a transaction; a part of an entry at the end is left out
+-- the table and the bad list in their files: four bytes an amount, two bytes a transaction; a part of an entry at the end is left
+-- out
 unfoldable pub amounts : List ℕ → List Amount
 amounts file = map amount (entries 4 file)
 
@@ -55,9 +51,10 @@ unfoldable pub transactions : List ℕ → List ℕ
 transactions file = entries 2 file
 
 -- take-back on the three files, with marks and paper of zeros; paper of 64,020 bytes holds any copy
-unfoldable pub taken : List ℕ → List ℕ → List ℕ → Undone
-taken journal tableFile badFile = undo (lent journal (amounts tableFile)) (transactions badFile) (replicate 1025 0) (replicate 64020 0)
+unfoldable pub undoFiles : List ℕ → List ℕ → List ℕ → UndoResult
+undoFiles journal tableFile badFile =
+    undo (inputsOf journal (amounts tableFile)) (transactions badFile) (replicate statusBytes 0) (replicate maxJournalBytes 0)
 
 -- what is printed
 unfoldable pub reportOf : List ℕ → List ℕ → List ℕ → List ℕ
-reportOf journal tableFile badFile = linesOf (lent journal (amounts tableFile)) (taken journal tableFile badFile)
+reportOf journal tableFile badFile = linesOf (inputsOf journal (amounts tableFile)) (undoFiles journal tableFile badFile)

@@ -4,23 +4,28 @@ use mathlib.Core.Path.{_≡_}
 use mathlib.Core.List.{List}
 use Prim.Native.Nat.{ℕ, _≤_, _<_}
 use lib.ListN.{length, take}
+use Rattle.format.specs.Limits.{maxJournalBytes}
 use Rattle.text.specs.Puts.{Put}
 use Rattle.report.specs.Output.{reportOf}
 use Rattle.report.specs.declared.Printed.{Printed}
 use Rattle.report.specs.declared.Printed.the-variants.{Bytes, NoRoom}
 
 -- what is read of a file: its first 64,020 bytes
-unfoldable pub readOf : List ℕ → List ℕ
-readOf file = take 64020 file
+unfoldable pub readPart : List ℕ → List ℕ
+readPart file = take maxJournalBytes file
 
 -- the report on what is read of the three files
 unfoldable pub filesReport : List ℕ → List ℕ → List ℕ → List ℕ
-filesReport journal table bad = reportOf (readOf journal) (readOf table) (readOf bad)
+filesReport journal table bad = reportOf (readPart journal) (readPart table) (readPart bad)
+
+-- the room that a report is given
+abbrev pub reportBytes : ℕ
+reportBytes = 100000
 
 -- of a buffer l: the report's length, and the report at the front of it; no room in under 100,000 bytes, and nothing is written
 abbrev pub Prints : List ℕ → List ℕ → List ℕ → (l out : List ℕ) → Printed → Type 0
-Prints journal table bad l out (Bytes n) = (100000 ≤ length l) × Put 0 (filesReport journal table bad) l out n
-Prints journal table bad l out NoRoom = (length l < 100000) × (out ≡ l)
+Prints journal table bad l out (Bytes n) = (reportBytes ≤ length l) × Put 0 (filesReport journal table bad) l out n
+Prints journal table bad l out NoRoom = (length l < reportBytes) × (out ≡ l)
 
 -- the report lies within the buffer
 abbrev pub Within : List ℕ → Printed → Type 0

@@ -4,17 +4,34 @@ ghost use mathlib.Core.List.{[], _∷_, flatten};
 ghost use Prim.Native.Nat.{_-_, _/_, _≤_, _<_};
 ghost use lib.ListN.{length, take};
 ghost use Rattle.lists.specs.Tables.{store};
-ghost use Rattle.journal.specs.Inputs.{lent};
+ghost use Rattle.format.specs.Limits.{recordBytes, statusBytes, maxJournalBytes};
+ghost use Rattle.journal.specs.Inputs.{inputsOf};
 ghost use Rattle.journal.specs.Calls as calls;
 ghost use Rattle.journal.specs.Journal.{count};
 ghost use Rattle.journal.specs.Reasons.{numberOf, placeOf};
 ghost use Rattle.text.specs.Lines.{endLine, refusedLine};
-ghost use Rattle.report.specs.Output.{undoneIn, undoneLines, changeIn, changeLines, countsOf, lines, linesOf, amounts, transactions, reportOf};
-ghost use Rattle.report.specs.Printed.{readOf, Prints, Within};
+ghost use Rattle.report.specs.Output.{undoneIn, undoneLines, changeIn, changeLines, lines, linesOf, amounts, transactions};
+ghost use Rattle.report.specs.Output.{reportOf};
+ghost use Rattle.report.specs.Counting.{totalsWith, recordsIn};
+ghost use Rattle.report.specs.Printed.{readPart, Prints, Within, reportBytes};
+ghost use Rattle.report.specs.Certified.{Reports, ReportsFiles, PrintsPromise};
 ghost use Rattle.deliver.specs.Answers.{answerOf};
 ghost use Rattle.text.specs.Puts.{Fits, Put};
 use deliver::Undone;
+use format::Key;
+use format::Lsn;
+use format::MAX_JOURNAL_BYTES;
+use format::RECORD_BYTES;
+use format::STATUS_BYTES;
+use format::TRANSACTIONS_END;
+use format::TransactionId;
 use journal::Reason;
+
+// Room for any report.
+pub const REPORT_BYTES: usize = 100000;
+
+// What is read of a file at most.
+pub const FILE_BYTES: usize = MAX_JOURNAL_BYTES;
 
 // What printing answers: the report's length; or the buffer is too short for some report.
 pub enum Printed {
@@ -23,13 +40,14 @@ pub enum Printed {
 }
 
 // The line of transaction s, if its status is 2 (document 01: mark 2, taken back).
-fn put_undone_in(out: &mut [u8], at: usize, status: &[u8], s: usize) -> usize
-    requires { ⌜ (s < length (now status)) × Fits at (undoneIn (now status) s) (now out) ⌝ }
-    ensures { λ r. ⌜ Put at (undoneIn (now (status .entry)) s) (now (out .entry)) (now (out .exit)) r ⌝ }
+fn put_undone_in(out: &mut [u8], at: usize, status: &[u8], s: TransactionId) -> usize
+    requires { ⌜ (s .0 < length (now status)) × Fits at (undoneIn (now status) (s .0)) (now out) ⌝ }
+    ensures { λ r. ⌜ Put at (undoneIn (now (status .entry)) (s .0)) (now (out .entry)) (now (out .exit)) r ⌝ }
 {
-    let code = status[s];
+    let i = s.0 as usize;
+    let code = status[i];
     if code == 2 {
-        text::put_undone(out, at, s as u64)
+        text::put_undone(out, at, s.0 as u64)
     } else {
         at
     }
@@ -37,41 +55,43 @@ fn put_undone_in(out: &mut [u8], at: usize, status: &[u8], s: usize) -> usize
 
 // The lines of all transactions with status 2.
 fn put_all_undone(out: &mut [u8], at: usize, status: &[u8]) -> usize
-    requires { ⌜ (length (now status) ≡ 1025) × Fits at (undoneLines (now status)) (now out) ⌝ }
+    requires { ⌜ (length (now status) ≡ statusBytes) × Fits at (undoneLines (now status)) (now out) ⌝ }
     ensures { λ r. ⌜ Put at (undoneLines (now (status .entry))) (now (out .entry)) (now (out .exit)) r ⌝ }
 {
     let mut end = at;
-    let mut s = 1;
-    while s < 1025 {
-        end = put_undone_in(out, end, status, s);
+    let mut s: u16 = 1;
+    while s < TRANSACTIONS_END {
+        end = put_undone_in(out, end, status, TransactionId(s));
         s += 1;
     }
     end
 }
 
 // The line of item x, if its amount is another.
-fn put_change_in(out: &mut [u8], at: usize, old: &[i32], new: &[i32], x: usize) -> usize
-    requires { ⌜ (x < length (now old)) × (x < length (now new)) × Fits at (changeIn (now old) (now new) x) (now out) ⌝ }
-    ensures { λ r. ⌜ Put at (changeIn (now (old .entry)) (now (new .entry)) x) (now (out .entry)) (now (out .exit)) r ⌝ }
+fn put_change_in(out: &mut [u8], at: usize, old: &[i32], new: &[i32], x: Key) -> usize
+    requires { ⌜ (x .0 < length (now old)) × (x .0 < length (now new)) × Fits at (changeIn (now old) (now new) (x .0)) (now out) ⌝ }
+    ensures { λ r. ⌜ Put at (changeIn (now (old .entry)) (now (new .entry)) (x .0)) (now (out .entry)) (now (out .exit)) r ⌝ }
 {
-    let before = old[x];
-    let after = new[x];
+    let i = x.0 as usize;
+    let before = old[i];
+    let after = new[i];
     if before == after {
         at
     } else {
-        text::put_change(out, at, x as u64, before, after)
+        text::put_change(out, at, x.0 as u64, before, after)
     }
 }
 
 // The lines of all items whose amount is another.
 fn put_changes(out: &mut [u8], at: usize, old: &[i32], new: &[i32]) -> usize
-    requires { ⌜ (length (now old) ≡ length (now new)) × Fits at (changeLines (now old) (now new)) (now out) ⌝ }
+    requires { ⌜ (length (now old) ≡ length (now new)) × Fits at (changeLines (now old) (now new)) (now out)
+        × (length (now old) ≤ 16005) ⌝ }
     ensures { λ r. ⌜ Put at (changeLines (now (old .entry)) (now (new .entry))) (now (out .entry)) (now (out .exit)) r ⌝ }
 {
     let mut end = at;
     let mut x = 0;
     while x < old.len() {
-        end = put_change_in(out, end, old, new, x);
+        end = put_change_in(out, end, old, new, Key(x as u32));
         x += 1;
     }
     end
@@ -80,7 +100,8 @@ fn put_changes(out: &mut [u8], at: usize, old: &[i32], new: &[i32]) -> usize
 // The amounts of a table file, at the front of `table`, and their number.
 fn read_amounts(file: &[u8], table: &mut [i32]) -> usize
     requires { ⌜ length (now file) / 4 ≤ length (now table) ⌝ }
-    ensures { λ r. ⌜ (r ≡ length (now (file .entry)) / 4) × (now (table .exit) ≡ store 0 (amounts (now (file .entry))) (now (table .entry))) ⌝ }
+    ensures { λ r. ⌜ (r ≡ length (now (file .entry)) / 4)
+        × (now (table .exit) ≡ store 0 (amounts (now (file .entry))) (now (table .entry))) ⌝ }
 {
     let n = file.len() / 4;
     let mut i = 0;
@@ -94,7 +115,8 @@ fn read_amounts(file: &[u8], table: &mut [i32]) -> usize
 // The transactions of a bad-list file, at the front of `bad`, and their number.
 fn read_transactions(file: &[u8], bad: &mut [u16]) -> usize
     requires { ⌜ length (now file) / 2 ≤ length (now bad) ⌝ }
-    ensures { λ r. ⌜ (r ≡ length (now (file .entry)) / 2) × (now (bad .exit) ≡ store 0 (transactions (now (file .entry))) (now (bad .entry))) ⌝ }
+    ensures { λ r. ⌜ (r ≡ length (now (file .entry)) / 2)
+        × (now (bad .exit) ≡ store 0 (transactions (now (file .entry))) (now (bad .entry))) ⌝ }
 {
     let n = file.len() / 2;
     let mut i = 0;
@@ -107,7 +129,7 @@ fn read_transactions(file: &[u8], bad: &mut [u16]) -> usize
 
 // The copy's records, by its bytes.
 fn copied_records(bytes: u64) -> u64
-    ensures { λ r. ⌜ r ≡ bytes / 20 - 1 ⌝ }
+    ensures { λ r. ⌜ r ≡ bytes / recordBytes - 1 ⌝ }
 {
     if bytes < 20 { 0 } else { bytes / 20 - 1 }
 }
@@ -122,8 +144,11 @@ fn put_changes_and_end(
     undone: u64,
     aborted: u64,
 ) -> usize
-    requires { ⌜ (length (now old) ≡ length (now new)) × Fits at (flatten (changeLines (now old) (now new) ∷ endLine surviving undone aborted ∷ [])) (now out) ⌝ }
-    ensures { λ r. ⌜ Put at (flatten (changeLines (now (old .entry)) (now (new .entry)) ∷ endLine surviving undone aborted ∷ [])) (now (out .entry)) (now (out .exit)) r ⌝ }
+    requires { ⌜ (length (now old) ≡ length (now new))
+        × Fits at (flatten (changeLines (now old) (now new) ∷ endLine surviving undone aborted ∷ [])) (now out)
+        × (length (now old) ≤ 16005) ⌝ }
+    ensures { λ r. ⌜ Put at (flatten (changeLines (now (old .entry)) (now (new .entry)) ∷ endLine surviving undone aborted ∷ []))
+        (now (out .entry)) (now (out .exit)) r ⌝ }
 {
     let a = put_changes(out, at, old, new);
     text::put_end(out, a, surviving, undone, aborted)
@@ -140,8 +165,12 @@ fn put_body(
     undone: u64,
     aborted: u64,
 ) -> usize
-    requires { ⌜ (length (now status) ≡ 1025) × (length (now old) ≡ length (now new)) × Fits at (flatten (undoneLines (now status) ∷ changeLines (now old) (now new) ∷ endLine surviving undone aborted ∷ [])) (now out) ⌝ }
-    ensures { λ r. ⌜ Put at (flatten (undoneLines (now (status .entry)) ∷ changeLines (now (old .entry)) (now (new .entry)) ∷ endLine surviving undone aborted ∷ [])) (now (out .entry)) (now (out .exit)) r ⌝ }
+    requires { ⌜ (length (now status) ≡ statusBytes) × (length (now old) ≡ length (now new))
+        × Fits at (flatten (undoneLines (now status) ∷ changeLines (now old) (now new) ∷ endLine surviving undone aborted ∷ []))
+        (now out) × (length (now old) ≤ 16005) ⌝ }
+    ensures { λ r. ⌜ Put at
+        (flatten (undoneLines (now (status .entry)) ∷ changeLines (now (old .entry)) (now (new .entry))
+        ∷ endLine surviving undone aborted ∷ [])) (now (out .entry)) (now (out .exit)) r ⌝ }
 {
     let a = put_all_undone(out, at, status);
     put_changes_and_end(out, a, old, new, surviving, undone, aborted)
@@ -159,8 +188,12 @@ fn put_accepted(
     aborted: u64,
     bytes: u64,
 ) -> usize
-    requires { ⌜ (length (now status) ≡ 1025) × (length (now old) ≡ length (now new)) × Fits 0 (lines n (now old) (now new) (now status) (calls.Answer.accepted (countsOf surviving undone aborted bytes))) (now out) ⌝ }
-    ensures { λ r. ⌜ Put 0 (lines n (now (old .entry)) (now (new .entry)) (now (status .entry)) (calls.Answer.accepted (countsOf surviving undone aborted bytes))) (now (out .entry)) (now (out .exit)) r ⌝ }
+    requires { ⌜ (length (now status) ≡ statusBytes) × (length (now old) ≡ length (now new))
+        × Fits 0 (lines n recordsIn (now old) (now new) (now status)
+        (calls.Answer.accepted (totalsWith surviving undone aborted bytes))) (now out) × (length (now old) ≤ 16005) ⌝ }
+    ensures { λ r. ⌜ Put 0
+        (lines n recordsIn (now (old .entry)) (now (new .entry)) (now (status .entry))
+        (calls.Answer.accepted (totalsWith surviving undone aborted bytes))) (now (out .entry)) (now (out .exit)) r ⌝ }
 {
     let m = copied_records(bytes);
     let a = text::put_counts(out, 0, n, m);
@@ -179,12 +212,13 @@ fn put_reason(out: &mut [u8], why: Reason) -> usize
 
 // The record count in a journal's head; 0, if it has none.
 fn count_in(journal: &[u8]) -> u64
-    ensures { λ r. ⌜ (20 ≤ length (now (journal .entry)) → r ≡ count (now (journal .entry))) ⌝ }
+    ensures { λ r. ⌜ (recordBytes ≤ length (now (journal .entry)) → r ≡ count (now (journal .entry))) ⌝ }
 {
-    if journal.len() < 20 {
+    if journal.len() < RECORD_BYTES {
         0
     } else {
-        format::next_at(journal, 0) as u64
+        let n = format::next_at(journal, Lsn(0));
+        n.0 as u64
     }
 }
 
@@ -197,8 +231,10 @@ fn put_answer(
     old: &[i32],
     new: &[i32],
 ) -> usize
-    requires { ⌜ (length (now status) ≡ 1025) × (length (now old) ≡ length (now new)) × Fits 0 (lines n (now old) (now new) (now status) (answerOf answer)) (now out) ⌝ }
-    ensures { λ r. ⌜ Put 0 (lines n (now (old .entry)) (now (new .entry)) (now (status .entry)) (answerOf answer)) (now (out .entry)) (now (out .exit)) r ⌝ }
+    requires { ⌜ (length (now status) ≡ statusBytes) × (length (now old) ≡ length (now new))
+        × Fits 0 (lines n recordsIn (now old) (now new) (now status) (answerOf answer)) (now out) × (length (now old) ≤ 16005) ⌝ }
+    ensures { λ r. ⌜ Put 0 (lines n recordsIn (now (old .entry)) (now (new .entry)) (now (status .entry)) (answerOf answer))
+        (now (out .entry)) (now (out .exit)) r ⌝ }
 {
     match answer {
         Undone::Done(c) => put_accepted(
@@ -226,19 +262,29 @@ fn report_on(
     copy: &mut [u8],
     out: &mut [u8],
 ) -> usize
-    requires { ⌜ (now new ≡ now old) × (length (now status) ≡ 1025) × (100000 ≤ length (now out)) ⌝ }
-    ensures { λ r. ⌜ Put 0 (linesOf (lent (now (journal .entry)) (now (old .entry))) (calls.undo (lent (now (journal .entry)) (now (old .entry))) (now (bad .entry)) (now (status .entry)) (now (copy .entry)))) (now (out .entry)) (now (out .exit)) r ⌝ }
+    requires { ⌜ (now new ≡ now old) × (length (now status) ≡ statusBytes) × (reportBytes ≤ length (now out))
+        × (length (now old) ≤ 16005) ⌝ }
+    ensures text { λ r. ⌜ Put 0
+        (linesOf (inputsOf (now (journal .entry)) (now (old .entry)))
+        (calls.undo (inputsOf (now (journal .entry)) (now (old .entry))) (now (bad .entry)) (now (status .entry))
+        (now (copy .entry)))) (now (out .entry)) (now (out .exit)) r ⌝ }
+    ensures demands { λ r. ⌜ Reports (inputsOf (now (journal .entry)) (now (old .entry))) (now (bad .entry)) (now (status .entry))
+        (now (copy .entry)) (take r (now (out .exit))) ⌝ }
 {
-    let answer = undo::undo(journal, new, bad, status, copy);
+    let answer = certified::undo(journal, new, bad, status, copy);
     let n = count_in(journal);
     put_answer(out, answer, n, status, old, new)
 }
 
 // The report on a journal, a table file and a bad-list file at the front of `out`, and its length.
 fn report(journal: &[u8], table: &[u8], bad: &[u8], out: &mut [u8]) -> usize
-    requires { ⌜ (length (now table) ≤ 64020) × (length (now bad) ≤ 64020) × (100000 ≤ length (now out)) ⌝ }
-    ensures size { λ r. ⌜ r ≤ 100000 ⌝ }
-    ensures text { λ r. ⌜ Put 0 (reportOf (now (journal .entry)) (now (table .entry)) (now (bad .entry))) (now (out .entry)) (now (out .exit)) r ⌝ }
+    requires { ⌜ (length (now table) ≤ maxJournalBytes) × (length (now bad) ≤ maxJournalBytes)
+        × (reportBytes ≤ length (now out)) ⌝ }
+    ensures size { λ r. ⌜ r ≤ reportBytes ⌝ }
+    ensures text { λ r. ⌜ Put 0 (reportOf (now (journal .entry)) (now (table .entry)) (now (bad .entry))) (now (out .entry))
+        (now (out .exit)) r ⌝ }
+    ensures demands { λ r. ⌜ ReportsFiles (now (journal .entry)) (now (table .entry)) (now (bad .entry))
+        (take r (now (out .exit))) ⌝ }
 {
     let mut old = [0i32; 16005];
     let items = read_amounts(table, &mut old);
@@ -246,8 +292,8 @@ fn report(journal: &[u8], table: &[u8], bad: &[u8], out: &mut [u8]) -> usize
     read_amounts(table, &mut new);
     let mut listed = [0u16; 32010];
     let count = read_transactions(bad, &mut listed);
-    let mut status = [0u8; 1025];
-    let mut copy = [0u8; 64020];
+    let mut status = [0u8; STATUS_BYTES];
+    let mut copy = [0u8; MAX_JOURNAL_BYTES];
     report_on(
         journal,
         &old[0..items],
@@ -261,12 +307,13 @@ fn report(journal: &[u8], table: &[u8], bad: &[u8], out: &mut [u8]) -> usize
 
 // How many bytes of a file are read: the first 64,020.
 fn read_of(file: &[u8]) -> usize
-    ensures { λ r. ⌜ (r ≤ length (now (file .entry))) × (r ≤ 64020) × (take r (now (file .entry)) ≡ readOf (now (file .entry))) ⌝ }
+    ensures { λ r. ⌜ (r ≤ length (now (file .entry))) × (r ≤ maxJournalBytes)
+        × (take r (now (file .entry)) ≡ readPart (now (file .entry))) ⌝ }
 {
-    if file.len() < 64020 {
+    if file.len() < MAX_JOURNAL_BYTES {
         file.len()
     } else {
-        64020
+        MAX_JOURNAL_BYTES
     }
 }
 
@@ -274,9 +321,11 @@ fn read_of(file: &[u8]) -> usize
 // has no room, and nothing is written.
 pub fn report_files(journal: &[u8], table: &[u8], bad: &[u8], out: &mut [u8]) -> Printed
     ensures within { λ r. ⌜ Within (now (out .exit)) r ⌝ }
-    ensures text { λ r. ⌜ Prints (now (journal .entry)) (now (table .entry)) (now (bad .entry)) (now (out .entry)) (now (out .exit)) r ⌝ }
+    ensures text { λ r. ⌜ Prints (now (journal .entry)) (now (table .entry)) (now (bad .entry)) (now (out .entry))
+        (now (out .exit)) r ⌝ }
+    ensures demands { λ r. ⌜ PrintsPromise (now (journal .entry)) (now (table .entry)) (now (bad .entry)) (now (out .exit)) r ⌝ }
 {
-    if out.len() < 100000 {
+    if out.len() < REPORT_BYTES {
         return Printed::NoRoom;
     }
     let j = read_of(journal);

@@ -50,7 +50,7 @@ base-some x p k {w} e =
 pub bases-in : (b : List ℕ) (n x : ℕ) (l : List ℕ) → l ≡ basesOf (history b n) → x < 1024 → x < length l
 bases-in b n x l e h = rw (e, length-bases (history b n)) h
 
-pub base-long : (b : List ℕ) (n x f : ℕ) (l : List ℕ) → Ready b n → l ≡ basesOf (history b n) → x < 1024 → f ≡ getD l x 0 → 20 * f + 20 ≤ length b
+pub base-long : (b : List ℕ) (n x f : ℕ) (l : List ℕ) → Ready b n → l ≡ basesOf (history b n) → x < 1024 → f ≡ getD l x 0 → 20 * (f + 1) ≤ length b
 base-long b n x f l k e h q =
     let z : f ≤ n = rw (q, e, bases-at (history b n) x h) (found-bound (base-found x b n)) in omega (arith, k .long)
 
@@ -74,19 +74,19 @@ module _ (b : List ℕ) (n x w v : ℕ) (l m : List ℕ) (k : Ready b n) (e : l 
   stands : (d : Amount) → standing d (history b n) x ≡ cond (eqb (getD m v 0) 2) (beforeIn (baseWrite (history b n) x) (pos 0)) (afterOf (opOf w (recordAt b w)) (pos 0))
   stands d = standing-last d x (history b n) (passing-history b n (k .passed)) last-one ∙ rw (last-one, end-at)
 
-  pub standing-after : (r : Record) → (getD m v 0 ≡ 2 → ⊥) → r ≡ recordAt b w → SFits w32 (r .after) → toZ w32 (ofZ w32 (r .after)) ≡ standing (pos 0) (history b n) x
-  standing-after r y c f =
-      toZ-ofZ w32 (r .after) f ∙ ap (λ u. u .after) c ∙ sym (stands (pos 0) ∙ rw (ne-eqb (getD m v 0) 2 y) (write-after w (recordAt b w) x (pos 0) writes-x))
+  pub standing-after : (r : Record) (end : ℕ) → end ≡ getD m v 0 → (end ≡ 2 → ⊥) → r ≡ recordAt b w → SFits w32 (r .after) → toZ w32 (ofZ w32 (r .after)) ≡ standing (pos 0) (history b n) x
+  standing-after r end d y c f =
+      toZ-ofZ w32 (r .after) f ∙ ap (λ u. u .after) c ∙ sym (stands (pos 0) ∙ rw (← d, ne-eqb end 2 y) (write-after w (recordAt b w) x (pos 0) writes-x))
 
-  pub standing-before : (r : Record) (o : List ℕ) (j : ℕ) → getD m v 0 ≡ 2 → o ≡ basesOf (history b n) → j ≡ getD o x 0 → r ≡ recordAt b j → SFits w32 (r .before)
+  pub standing-before : (r : Record) (o : List ℕ) (j end : ℕ) → end ≡ getD m v 0 → end ≡ 2 → o ≡ basesOf (history b n) → j ≡ getD o x 0 → r ≡ recordAt b j → SFits w32 (r .before)
       → toZ w32 (ofZ w32 (r .before)) ≡ standing (pos 0) (history b n) x
-  standing-before r o j y i p c f =
+  standing-before r o j end d y i p c f =
       let (u, s, a) = base-some x (history b n) (passing-history b n (k .passed)) last-one in
       let tag : j ≡ tagIn (baseWrite (history b n) x) = p ∙ rw i (bases-at (history b n) x h) in
       let found = found-some (base-found x b n) (λ zero. Option·none-ne-some u (sym (found-none (base-found x b n) zero) ∙ s)) in
       let same : u ≡ opOf j (recordAt b j) = some-same (sym s ∙ found ∙ ap (λ t. some (opOf t (recordAt b t))) (sym tag)) in
       toZ-ofZ w32 (r .before) f ∙ ap (λ u. u .before) c
-      ∙ sym (stands (pos 0) ∙ rw (y, s, same) (write-before j (recordAt b j) x (pos 0) (rw (← same) a)))
+      ∙ sym (stands (pos 0) ∙ rw (← d, y, s, same) (write-before j (recordAt b j) x (pos 0) (rw (← same) a)))
 
 -- whatever the table has
 pub standing-any : (b : List ℕ) (n x : ℕ) (l : List ℕ) (d : Amount) → Ready b n → l ≡ writesOf (history b n) → x < 1024 → (getD l x 0 ≡ 0 → ⊥)

@@ -158,9 +158,9 @@ unfolding firstsOf
 firsts-set p r h e =
     tabulate-set (firstTag p) (firstTag (r ∷ p)) 1025 (txOf r) (tagOf r) h (rw (eq-eqb (txOf r) (txOf r) refl, e)) (λ j q. rw q)
 
-pub firsts-kept : (p : History) (r : Op) {w : Op} → first (ofTx (txOf r)) p ≡ some w → firstsOf p ≡ firstsOf (r ∷ p)
+pub firsts-same : (p : History) (r : Op) {w : Op} → first (ofTx (txOf r)) p ≡ some w → firstsOf p ≡ firstsOf (r ∷ p)
 unfolding firstsOf
-firsts-kept p r e =
+firsts-same p r e =
     tabulate-same _ _ 1025 (λ j. byCases (eqb j (txOf r)) (λ q. let z = eqb-true j (txOf r) q in rw (q, z, e)) (λ q. rw q))
 
 -- ---- the operation of a record, by its kind

@@ -13,14 +13,14 @@ use Rattle.lists.proofs.BoolLaws.{and-left, and-right}
 use Rattle.format.specs.declared.Record.{Record}
 use Rattle.format.specs.Layout.{recordAt}
 use Rattle.model.specs.History.{Op, History, read, write, commit, abort, other, tagIn}
-use Rattle.model.proofs.Legal.{Sighted}
+use Rattle.model.proofs.Legal.{NoBlindWrites}
 use Rattle.model.proofs.Opening.{Passing, start, step}
 use Rattle.journal.specs.Journal.{items, txIn, opOf, history}
-use Rattle.journal.specs.Refusals.{within, malformed, closed, crossed, blind, mismatched}
+use Rattle.journal.specs.Refusals.{within, malformed, terminated, conflicting, blind, mismatched}
 use Rattle.journal.proofs.Checked.{RecordRight}
 use Rattle.journal.proofs.Records.{tagOf-opOf}
 use Rattle.rules.specs.Recent.{byTx, lastWrite, baseWrite}
-use Rattle.rules.specs.Arrays.{CoreRight, SightedTo}
+use Rattle.rules.specs.Arrays.{CoreRight, NoBlindTo}
 
 -- ---- an operation that was looked for
 
@@ -79,7 +79,7 @@ found-some {b} (at t l m) e = rw (tagOf-opOf t (recordAt b t))
 -- ---- records that passed
 
 pub core-right : {b : List ℕ} {i : ℕ} {p : History} → RecordRight b i p → CoreRight b i p
-core-right r = record { formed = r .formed; chained = r .chained; unclosed = r .follows .unclosed; uncrossed = r .follows .uncrossed; matched = r .matched }
+core-right r = record { formed = r .formed; chained = r .chained; notTerminated = r .follows .notTerminated; notConflicting = r .follows .notConflicting; matched = r .matched }
 
 module _ (b : List ℕ) (n : ℕ) (k : (i : ℕ) → i < n → CoreRight b (suc i) (history b i)) where
   pub passed-right : (i : ℕ) → i < n → CoreRight b (suc i) (history b i)
@@ -98,20 +98,20 @@ module _ (b : List ℕ) (n : ℕ) (k : (i : ℕ) → i < n → CoreRight b (suc 
 
   -- they are a history that passes
   passing-to : (m : ℕ) → m ≤ n → Passing (history b m)
-  unfolding history closed crossed mismatched
+  unfolding history terminated conflicting mismatched
   passing-to zero h = start
   passing-to (suc m) h =
       let r = passed-right m (omega arith) in
-      step (passing-to m (omega arith)) (record { closed = r .unclosed; uncrossed = r .uncrossed; matched = r .matched })
+      step (passing-to m (omega arith)) (record { notTerminated = r .notTerminated; notConflicting = r .notConflicting; matched = r .matched })
 
   pub passing-history : Passing (history b n)
   passing-history = passing-to n (omega arith)
 
 -- and each write follows a read
-sighted-to : (b : List ℕ) (n : ℕ) → SightedTo b n → (m : ℕ) → m ≤ n → Sighted (history b m)
+noBlind-to : (b : List ℕ) (n : ℕ) → NoBlindTo b n → (m : ℕ) → m ≤ n → NoBlindWrites (history b m)
 unfolding history blind
-sighted-to b n k zero h = tt
-sighted-to b n k (suc m) h = (sighted-to b n k m (omega arith), k .read m (omega arith))
+noBlind-to b n k zero h = tt
+noBlind-to b n k (suc m) h = (noBlind-to b n k m (omega arith), k .read m (omega arith))
 
-pub sighted-history : (b : List ℕ) (n : ℕ) → SightedTo b n → Sighted (history b n)
-sighted-history b n k = sighted-to b n k n (omega arith)
+pub noBlind-history : (b : List ℕ) (n : ℕ) → NoBlindTo b n → NoBlindWrites (history b n)
+noBlind-history b n k = noBlind-to b n k n (omega arith)

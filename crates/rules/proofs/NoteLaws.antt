@@ -24,7 +24,7 @@ use Rattle.rules.specs.Recent.{lastWrite, byTx}
 use Rattle.rules.specs.Arrays.{Ready, Linked, State, endsOf, firstsOf, writesOf, basesOf, readsOf, readBefore, firstPut}
 use Rattle.rules.specs.Answers.{writerOf}
 use Rattle.rules.proofs.Found.{first-found, found-none, found-some}
-use Rattle.rules.proofs.ArraysLaws.{firsts-at, reads-at, firsts-set, firsts-kept, ends-commit, ends-abort, writes-write, bases-again, bases-write, reads-read, reads-write, length-firsts, length-ends, length-writes, length-bases, length-reads, op-read, op-write, op-commit, op-abort}
+use Rattle.rules.proofs.ArraysLaws.{firsts-at, reads-at, firsts-set, firsts-same, ends-commit, ends-abort, writes-write, bases-again, bases-write, reads-read, reads-write, length-firsts, length-ends, length-writes, length-bases, length-reads, op-read, op-write, op-commit, op-abort}
 use Rattle.rules.proofs.RuleLaws.{item-read, item-write}
 
 -- ---- leaves
@@ -76,7 +76,7 @@ firsts-step b n l h e =
     (λ q. let none' = found-none (first-found (ofTx s) b n) (sym a ∙ eqb-true (getD l s 0) 0 q) in
     rw (q, e) (rw (t, g) at (firsts-set (history b n) o (rw t h) (rw t none'))))
     (λ q. let some' = found-some (first-found (ofTx s) b n) (λ z. eqb-false (getD l s 0) 0 q (a ∙ z)) in
-    rw (q, e) (firsts-kept (history b n) o (ap (λ v. first (ofTx v) (history b n)) t ∙ some')))
+    rw (q, e) (firsts-same (history b n) o (ap (λ v. first (ofTx v) (history b n)) t ∙ some')))
 
 -- ---- all arrays
 
@@ -101,7 +101,7 @@ module _ (b : List ℕ) (n : ℕ) (r : Record) (ends firsts writes bases reads l
         begun = rw (h, ← q) now-first;
         written = rw h c;
         based = rw h d;
-        sighted = rw h g;
+        lastRead = rw h g;
         linked = l;
       })
 
@@ -114,8 +114,8 @@ module _ (b : List ℕ) (n : ℕ) (r : Record) (ends firsts writes bases reads l
       (s .ended)
       (s .written)
       (s .based)
-      (d ∙ rw (add-one, s .sighted) (reads-read (history b n) (suc n) (txIn r) (r .item .0) x))
-      (rw (c, add-one, here) (linked-read b n links reads u (s .linked) (rw here at x) (s .sighted)))
+      (d ∙ rw (add-one, s .lastRead) (reads-read (history b n) (suc n) (txIn r) (r .item .0) x))
+      (rw (c, add-one, here) (linked-read b n links reads u (s .linked) (rw here at x) (s .lastRead)))
 
   not-read : (m : ℕ) → r .kind ≡ m → (m ≡ 1 → ⊥) → recordAt b (suc n) .kind ≡ 1 → ⊥
   not-read m q h z = h (sym q ∙ ap (λ t. t .kind) here ∙ z)
@@ -134,7 +134,7 @@ module _ (b : List ℕ) (n : ℕ) (r : Record) (ends firsts writes bases reads l
       (byCases (byTx (lastWrite (history b n) y) (txIn r))
       (λ z. rw z (bases-again (history b n) (suc n) (txIn r) y (r .before) (r .after) z))
       (λ z. rw z (bases-write (history b n) (suc n) (txIn r) y (r .before) (r .after) x z))))
-      (g ∙ rw (s .sighted) (reads-write (history b n) (suc n) (txIn r) y (r .before) (r .after) x))
+      (g ∙ rw (s .lastRead) (reads-write (history b n) (suc n) (txIn r) y (r .before) (r .after) x))
       (linked-other b n links (s .linked) (not-read 2 q (λ z. eqb-false 2 1 refl z)))
 
   pub state-commit : (ends' : List ℕ) → r .kind ≡ 3 → ends' ≡ set ends (txIn r) 1 → State b (n + 1) ends' firsts' writes bases reads links
@@ -145,7 +145,7 @@ module _ (b : List ℕ) (n : ℕ) (r : Record) (ends firsts writes bases reads l
       (c ∙ rw (s .ended) (ends-commit (history b n) (suc n) (txIn r) (omega arith)))
       (s .written)
       (s .based)
-      (s .sighted)
+      (s .lastRead)
       (linked-other b n links (s .linked) (not-read 3 q (λ z. eqb-false 3 1 refl z)))
 
   pub state-abort : (ends' : List ℕ) → r .kind ≡ 4 → ends' ≡ set ends (txIn r) 2 → State b (n + 1) ends' firsts' writes bases reads links
@@ -156,7 +156,7 @@ module _ (b : List ℕ) (n : ℕ) (r : Record) (ends firsts writes bases reads l
       (c ∙ rw (s .ended) (ends-abort (history b n) (suc n) (txIn r) (omega arith)))
       (s .written)
       (s .based)
-      (s .sighted)
+      (s .lastRead)
       (linked-other b n links (s .linked) (not-read 4 q (λ z. eqb-false 4 1 refl z)))
 
   -- a record that is no read and no write is an end
@@ -185,7 +185,7 @@ module _ (b : List ℕ) (n : ℕ) (r : Record) (ends firsts writes bases reads l
   tx-ends = let g = formed-range (items b) r f in rw (s .ended, length-ends (history b n)) (omega arith)
 
   pub read-reads : r .kind ≡ 1 → r .item .0 < length reads
-  read-reads e = rw (s .sighted, length-reads (history b n)) (item-read b n r k f e)
+  read-reads e = rw (s .lastRead, length-reads (history b n)) (item-read b n r k f e)
 
   pub read-links : n < 3200 → n + 1 < length links
   read-links u = omega (arith, s .linked .size)
@@ -197,10 +197,7 @@ module _ (b : List ℕ) (n : ℕ) (r : Record) (ends firsts writes bases reads l
   write-bases e = rw (s .based, length-bases (history b n)) (item-write b n r k f e)
 
   pub write-reads : r .kind ≡ 2 → r .item .0 < length reads
-  write-reads e = rw (s .sighted, length-reads (history b n)) (item-write b n r k f e)
-
-pub bases-when : (again : Bool) (l m : List ℕ) → again ≡ true → l ≡ cond again l m
-bases-when again l m e = rw e
+  write-reads e = rw (s .lastRead, length-reads (history b n)) (item-write b n r k f e)
 
 pub bases-else : (again : Bool) (l m : List ℕ) → again ≡ false → m ≡ cond again l m
 bases-else again l m e = rw e

@@ -28,13 +28,13 @@ module _ (ends : List ℕ) (s v : ℕ) where
     unfolding looked
     looked-own e = rw (eq-eqb s v e, or-false (f .other), or-true (f .own))
 
-    pub looked-other : (s ≡ v → ⊥) → getD ends v 0 ≡ 0 → _≡_ {A = Touched} (record { other = true; own = f .own }) (looked ends s v f)
+    pub looked-other : (end : ℕ) → end ≡ getD ends v 0 → (s ≡ v → ⊥) → end ≡ 0 → _≡_ {A = Touched} (record { other = true; own = f .own }) (looked ends s v f)
     unfolding looked
-    looked-other e z = rw (ne-eqb s v e, z, or-false (f .own), or-true (f .other))
+    looked-other end q e z = rw (ne-eqb s v e, ← q, z, or-false (f .own), or-true (f .other))
 
-    pub looked-ended : (s ≡ v → ⊥) → (getD ends v 0 ≡ 0 → ⊥) → f ≡ looked ends s v f
+    pub looked-ended : (end : ℕ) → end ≡ getD ends v 0 → (s ≡ v → ⊥) → (end ≡ 0 → ⊥) → f ≡ looked ends s v f
     unfolding looked
-    looked-ended e z = rw (ne-eqb s v e, ne-eqb (getD ends v 0) 0 z, or-false (f .own), or-false (f .other))
+    looked-ended end q e z = rw (ne-eqb s v e, ← q, ne-eqb end 0 z, or-false (f .own), or-false (f .other))
 
 -- ---- the last writer
 
@@ -48,7 +48,7 @@ module _ (b : List ℕ) (n x w : ℕ) (l : List ℕ) (k : Ready b n) (e : l ≡ 
   pub last-le : w ≤ n
   last-le = rw last-tag (found-bound (latest-found (writeTo x) b n))
 
-  pub last-long : 20 * w + 20 ≤ length b
+  pub last-long : 20 * (w + 1) ≤ length b
   last-long = let z = last-le in omega (arith, k .long)
 
   pub last-none : w ≡ 0 → lastWrite (history b n) x ≡ none
@@ -102,7 +102,7 @@ walked-start b n s x f k l e h q =
     })
 
 module _ (b : List ℕ) (n s x : ℕ) (f : Touched) (k : ℕ) (all : Touched) (w : Walked b n s x f k all) where
-  pub walked-long : Ready b n → 20 * k + 20 ≤ length b
+  pub walked-long : Ready b n → 20 * (k + 1) ≤ length b
   walked-long r = omega (arith, w .low, r .long)
 
   pub walked-in : (l : List ℕ) → Ready b n → Linked b n l → k < length l

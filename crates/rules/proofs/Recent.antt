@@ -15,8 +15,8 @@ use Rattle.lists.proofs.SearchLaws.{any-mono, any-some, any-latest, latest-pass
 use Rattle.model.specs.History.{Op, History, Amount, read, write, commit, abort, other, txOf, beforeOf, afterOf, ofTx, readOf, writeOf, accessOf, writeTo, accessTo, ended, beforeIn, current, initial, standing, committed, aborted}
 use Rattle.model.specs.Rules.{byOther}
 use Rattle.model.proofs.Ends.{EndsLast, read-of, write-of, access-of, access-to, read-access, write-touch, not-committed, not-aborted}
-use Rattle.model.proofs.Legal.{Sighted}
-use Rattle.model.proofs.Strict.{neq-sym, uncrossed-any}
+use Rattle.model.proofs.Legal.{NoBlindWrites}
+use Rattle.model.proofs.Strict.{neq-sym, notConflicting-any}
 use Rattle.model.proofs.Opening.{Passing, step}
 use Rattle.rules.specs.Recent.{endCode, otherActive, lastWrite, byTx, byOtherActive, baseWrite, readsSince, readByOther, standingOf}
 
@@ -52,14 +52,14 @@ module _ (x v : ℕ) where
       (λ q. let xy = eqb-true x y q in
       byCases (eqb v u)
       (λ g. rw (q, g))
-      (λ g. rw (q, g) (uncrossed-any (accessTo x) (writeOf v x) p u v (write-of v x) (write-touch v x) (rw (← xy) at (l .uncrossed)) (neq-sym v u g) e)))
+      (λ g. rw (q, g) (notConflicting-any (accessTo x) (writeOf v x) p u v (write-of v x) (write-touch v x) (rw (← xy) at (l .notConflicting)) (neq-sym v u g) e)))
       (λ q. rw (q, and-false (eqb v u)) (open-writes p k e))
   open-writes (commit t u ∷ p) (step k l) e = open-writes p k (or-false-right (eqb v u) _ e)
   open-writes (abort t u ∷ p) (step k l) e = open-writes p k (or-false-right (eqb v u) _ e)
   open-writes (other t u ∷ p) (step k l) e = open-writes p k e
 
   -- where each write follows a read, it has read the item, if and only if it wrote it last or has read it since
-  pub open-reads : (p : History) → Passing p → Sighted p → ended p v ≡ false → any (readOf v x) p ≡ byTx (lastWrite p x) v || any (ofTx v) (readsSince x p)
+  pub open-reads : (p : History) → Passing p → NoBlindWrites p → ended p v ≡ false → any (readOf v x) p ≡ byTx (lastWrite p x) v || any (ofTx v) (readsSince x p)
   open-reads [] k g e = refl
   open-reads (read t u y ∷ p) (step k l) g e =
       byCases (eqb x y)
@@ -72,7 +72,7 @@ module _ (x v : ℕ) where
       (λ q. let xy = eqb-true x y q in
       byCases (eqb v u)
       (λ w. rw (q, w, eqb-true v u w, xy) (not-false _ (g .1)))
-      (λ w. rw (q, w) (uncrossed-any (accessTo x) (readOf v x) p u v (read-of v x) (λ r z. access-to v x r (read-access v x r z)) (rw (← xy) at (l .uncrossed)) (neq-sym v u w) e)))
+      (λ w. rw (q, w) (notConflicting-any (accessTo x) (readOf v x) p u v (read-of v x) (λ r z. access-to v x r (read-access v x r z)) (rw (← xy) at (l .notConflicting)) (neq-sym v u w) e)))
       (λ q. rw q (open-reads p k (g .0) e))
   open-reads (commit t u ∷ p) (step k l) g e = open-reads p k (g .0) (or-false-right (eqb v u) _ e)
   open-reads (abort t u ∷ p) (step k l) g e = open-reads p k (g .0) (or-false-right (eqb v u) _ e)
@@ -92,7 +92,7 @@ module _ (x v : ℕ) where
       (λ q. let xy = eqb-true x y q in
       byCases (eqb v u)
       (λ g. rw (q, g))
-      (λ g. rw (q, g) (uncrossed-any (accessTo x) (accessOf v x) p u v (access-of v x) (access-to v x) (rw (← xy) at (l .uncrossed)) (neq-sym v u g) e)))
+      (λ g. rw (q, g) (notConflicting-any (accessTo x) (accessOf v x) p u v (access-of v x) (access-to v x) (rw (← xy) at (l .notConflicting)) (neq-sym v u g) e)))
       (λ q. rw (q, and-false (eqb v u)) (open-accesses p k e))
   open-accesses (commit t u ∷ p) (step k l) e = open-accesses p k (or-false-right (eqb v u) _ e)
   open-accesses (abort t u ∷ p) (step k l) e = open-accesses p k (or-false-right (eqb v u) _ e)
@@ -190,7 +190,7 @@ base-first x (write t u y b a ∷ p) (step k l) {w} e =
     byCases (eqb x y)
     (λ q. let i : some (write t u y b a) ≡ some w = rw q at e in
     let i' : write t u y b a ≡ w = cc in
-    let o = open-writes x u p k (l .closed) in
+    let o = open-writes x u p k (l .notTerminated) in
     rw (← i', q, eq-eqb u u refl)
     (byCases (byTx (lastWrite p x) u)
     (λ g. rw g (old (λ v. base-first x p k {w = v}) (lastWrite p x) refl g ∙ sym (kept (o ∙ g))))
@@ -228,19 +228,19 @@ current-last d x (write t u y b a ∷ p) (step k l) {w} e =
     byCases (eqb x y)
     (λ q. let i : some (write t u y b a) ≡ some w = rw q at e in
     let i' : write t u y b a ≡ w = cc in
-    rw (← i', q, ended-no-abort p u (l .closed)))
+    rw (← i', q, ended-no-abort p u (l .notTerminated)))
     (λ q. rw (q, and-false (eqb (txOf w) u)) (current-last d x p k (rw q at e)))
 current-last d x (commit t u ∷ p) (step k l) {w} e =
     byCases (eqb (txOf w) u)
-    (λ q. let z = ended-no-abort p (txOf w) (rw (eqb-true (txOf w) u q) (l .closed)) in rw q (current-last d x p k e ∙ rw z))
+    (λ q. let z = ended-no-abort p (txOf w) (rw (eqb-true (txOf w) u q) (l .notTerminated)) in rw q (current-last d x p k e ∙ rw z))
     (λ q. rw q (current-last d x p k e))
 current-last d x (abort t u ∷ p) (step k l) {w} e =
     byCases (eqb (txOf w) u)
     (λ q. let wu = eqb-true (txOf w) u q in
     rw (q, wu)
     (abort-self u x p (current d p x)
-    (open-writes x u p k (l .closed) ∙ (ap (λ o. byTx o u) e ∙ eq-eqb u (txOf w) (sym wu)))))
-    (λ q. rw (q, first-none (writeOf u x) p (open-writes x u p k (l .closed) ∙ (ap (λ o. byTx o u) e ∙ neq-sym (txOf w) u q)))
+    (open-writes x u p k (l .notTerminated) ∙ (ap (λ o. byTx o u) e ∙ eq-eqb u (txOf w) (sym wu)))))
+    (λ q. rw (q, first-none (writeOf u x) p (open-writes x u p k (l .notTerminated) ∙ (ap (λ o. byTx o u) e ∙ neq-sym (txOf w) u q)))
     (current-last d x p k e))
 current-last d x (other t u ∷ p) (step k l) e = current-last d x p k e
 

@@ -19,17 +19,17 @@ use Rattle.format.specs.declared.Record.{Record}
 use Rattle.model.specs.History.{Op, History, Amount, sameAmount, commit, abort, other, writeTo, ended, standing}
 use Rattle.model.specs.Rules as rules
 use Rattle.journal.specs.Journal.{items, txIn, opOf, history}
-use Rattle.journal.specs.Refusals.{malformed, closed, crossed, blind, mismatched}
+use Rattle.journal.specs.Refusals.{malformed, terminated, conflicting, blind, mismatched}
 use Rattle.journal.specs.Orders.{Refusal, accessOrder, ruleOrder, decide}
 use Rattle.journal.proofs.Records.{txOf-opOf}
 use Rattle.journal.proofs.OrdersLaws.{orElse-none, orElse-assoc, decide-try, decide-turn, decide-over}
 use Rattle.fields.proofs.Fields.{formed-range, formed-item-read, formed-item-write}
 use Rattle.rules.specs.declared.Touched.{Touched}
 use Rattle.rules.specs.Recent.{endCode, lastWrite, byOtherActive, unlikeStanding}
-use Rattle.rules.specs.Arrays.{Ready, SightedTo, endsOf, writesOf}
+use Rattle.rules.specs.Arrays.{Ready, NoBlindTo, endsOf, writesOf}
 use Rattle.rules.specs.Answers.{writerOf, readersOf}
 use Rattle.rules.proofs.Recent.{ended-code, open-reads, other-writer, other-access}
-use Rattle.rules.proofs.Found.{passing-history, sighted-history}
+use Rattle.rules.proofs.Found.{passing-history, noBlind-history}
 use Rattle.rules.proofs.ArraysLaws.{ends-at, length-ends, op-read, op-write}
 use Rattle.rules.proofs.ReadersLaws.{last-none, last-some}
 
@@ -38,7 +38,7 @@ abbrev pub at : ℕ → ℕ → Option Refusal
 at k i = some (record { number = k; place = i })
 
 pub rule-parts : (p : History) (i : ℕ) (o : Op)
-    → decide (ruleOrder p i o) ≡ orElse (cond (closed p o) (at 6 i) none) (orElse (cond (crossed p o) (at 7 i) none) (orElse (cond (blind p o) (at 8 i) none) (cond (mismatched p o) (at 9 i) none)))
+    → decide (ruleOrder p i o) ≡ orElse (cond (terminated p o) (at 6 i) none) (orElse (cond (conflicting p o) (at 7 i) none) (orElse (cond (blind p o) (at 8 i) none) (cond (mismatched p o) (at 9 i) none)))
 unfolding ruleOrder accessOrder
 rule-parts p i o = simp (decide-turn, decide-over, decide-try, orElse-none, orElse-assoc)
 
@@ -58,84 +58,84 @@ module _ (b : List ℕ) (n : ℕ) (r : Record) (k : Ready b n) (f : malformed (i
     end-is : getD m (txIn r) 0 ≡ endCode (history b n) (txIn r)
     end-is = let a = formed-range (items b) r f in rw (g, ends-at (history b n) (txIn r) (omega arith))
 
-    closed-is : closed (history b n) (opOf (n + 1) r) ≡ not (eqb (getD m (txIn r) 0) 0)
-    unfolding closed
-    closed-is = rw (txOf-opOf (n + 1) r, end-is) (ended-code (history b n) (txIn r))
+    terminated-is : terminated (history b n) (opOf (n + 1) r) ≡ not (eqb (getD m (txIn r) 0) 0)
+    unfolding terminated
+    terminated-is = rw (txOf-opOf (n + 1) r, end-is) (ended-code (history b n) (txIn r))
 
     -- 6
-    pub rule-closed : (getD m (txIn r) 0 ≡ 0 → ⊥) → at 6 (n + 1) ≡ decide (ruleOrder (history b n) (n + 1) (opOf (n + 1) r))
-    rule-closed z = rw (rule-parts (history b n) (n + 1) (opOf (n + 1) r), closed-is, ne-eqb (getD m (txIn r) 0) 0 z)
+    pub rule-terminated : (end : ℕ) → end ≡ getD m (txIn r) 0 → (end ≡ 0 → ⊥) → at 6 (n + 1) ≡ decide (ruleOrder (history b n) (n + 1) (opOf (n + 1) r))
+    rule-terminated end q z = rw (rule-parts (history b n) (n + 1) (opOf (n + 1) r), terminated-is, ← q, ne-eqb end 0 z)
 
     module _ (z : getD m (txIn r) 0 ≡ 0) where
       unended : ended (history b n) (txIn r) ≡ false
       unended = ended-code (history b n) (txIn r) ∙ rw (← end-is, z)
 
       rest : decide (ruleOrder (history b n) (n + 1) (opOf (n + 1) r))
-          ≡ orElse (cond (crossed (history b n) (opOf (n + 1) r)) (at 7 (n + 1)) none) (orElse (cond (blind (history b n) (opOf (n + 1) r)) (at 8 (n + 1)) none) (cond (mismatched (history b n) (opOf (n + 1) r)) (at 9 (n + 1)) none))
-      rest = rw (rule-parts (history b n) (n + 1) (opOf (n + 1) r), closed-is, z)
-
-      -- an end
-      pub rule-end : (r .kind ≡ 1 → ⊥) → (r .kind ≡ 2 → ⊥) → none ≡ decide (ruleOrder (history b n) (n + 1) (opOf (n + 1) r))
-      unfolding opOf crossed blind mismatched
-      rule-end c d = rw (rest, ne-eqb (r .kind) 1 c, ne-eqb (r .kind) 2 d) (two (eqb (r .kind) 3) (eqb (r .kind) 4))
-        where
-          of : Bool → Bool → Op
-          of e g = cond e (commit (n + 1) (txIn r)) (cond g (abort (n + 1) (txIn r)) (other (n + 1) (txIn r)))
-
-          two : (e g : Bool)
-              → none ≡ orElse (cond (rules.crossed (history b n) (of e g)) (at 7 (n + 1)) none) (orElse (cond (rules.blind (history b n) (of e g)) (at 8 (n + 1)) none) (cond (rules.mismatched (history b n) (of e g)) (at 9 (n + 1)) none))
-          two true g = refl
-          two false true = refl
-          two false false = refl
+          ≡ orElse (cond (conflicting (history b n) (opOf (n + 1) r)) (at 7 (n + 1)) none) (orElse (cond (blind (history b n) (opOf (n + 1) r)) (at 8 (n + 1)) none) (cond (mismatched (history b n) (opOf (n + 1) r)) (at 9 (n + 1)) none))
+      rest = rw (rule-parts (history b n) (n + 1) (opOf (n + 1) r), terminated-is, z)
 
       -- a read
       module _ (e : r .kind ≡ 1) (t : Touched) (w : t ≡ writerOf (history b n) (txIn r) (r .item .0)) where
         read-rest : decide (ruleOrder (history b n) (n + 1) (opOf (n + 1) r)) ≡ cond (t .other) (at 7 (n + 1)) none
-        unfolding crossed blind mismatched writerOf
+        unfolding conflicting blind mismatched writerOf
         read-rest =
             rw (rest, op-read (n + 1) r e, other-writer (history b n) (passing-history b n (k .passed)) (txIn r) (r .item .0), w)
             (orElse-none (cond (byOtherActive (history b n) (txIn r) (lastWrite (history b n) (r .item .0))) (at 7 (n + 1)) none))
 
-        pub read-crossed : t .other ≡ true → at 7 (n + 1) ≡ decide (ruleOrder (history b n) (n + 1) (opOf (n + 1) r))
-        read-crossed h = rw (read-rest, h)
+        pub read-conflict : t .other ≡ true → at 7 (n + 1) ≡ decide (ruleOrder (history b n) (n + 1) (opOf (n + 1) r))
+        read-conflict h = rw (read-rest, h)
 
         pub read-passed : t .other ≡ false → none ≡ decide (ruleOrder (history b n) (n + 1) (opOf (n + 1) r))
         read-passed h = rw (read-rest, h)
 
       -- a write
       module _ (e : r .kind ≡ 2) (t u : Touched) (w : t ≡ writerOf (history b n) (txIn r) (r .item .0)) (v : u ≡ readersOf (history b n) (txIn r) (r .item .0) t) where
-        crossed-is : crossed (history b n) (opOf (n + 1) r) ≡ u .other
-        unfolding crossed writerOf readersOf
-        crossed-is = rw (op-write (n + 1) r e, v, w) (other-access (history b n) (passing-history b n (k .passed)) (txIn r) (r .item .0))
+        conflict-is : conflicting (history b n) (opOf (n + 1) r) ≡ u .other
+        unfolding conflicting writerOf readersOf
+        conflict-is = rw (op-write (n + 1) r e, v, w) (other-access (history b n) (passing-history b n (k .passed)) (txIn r) (r .item .0))
 
-        blind-is : SightedTo b n → blind (history b n) (opOf (n + 1) r) ≡ not (u .own)
+        blind-is : NoBlindTo b n → blind (history b n) (opOf (n + 1) r) ≡ not (u .own)
         unfolding blind writerOf readersOf
-        blind-is g = rw (op-write (n + 1) r e, v, w) (ap not (open-reads (r .item .0) (txIn r) (history b n) (passing-history b n (k .passed)) (sighted-history b n g) unended))
+        blind-is g = rw (op-write (n + 1) r e, v, w) (ap not (open-reads (r .item .0) (txIn r) (history b n) (passing-history b n (k .passed)) (noBlind-history b n g) unended))
 
         mismatched-is : mismatched (history b n) (opOf (n + 1) r) ≡ any (writeTo (r .item .0)) (history b n) && not (sameAmount (r .before) (standing (pos 0) (history b n) (r .item .0)))
         unfolding mismatched
         mismatched-is = rw (op-write (n + 1) r e)
 
-        pub write-crossed : u .other ≡ true → at 7 (n + 1) ≡ decide (ruleOrder (history b n) (n + 1) (opOf (n + 1) r))
-        write-crossed h = rw (rest, crossed-is, h)
+        pub write-conflict : u .other ≡ true → at 7 (n + 1) ≡ decide (ruleOrder (history b n) (n + 1) (opOf (n + 1) r))
+        write-conflict h = rw (rest, conflict-is, h)
 
-        module _ (h : u .other ≡ false) (d : SightedTo b n) where
+        module _ (h : u .other ≡ false) (d : NoBlindTo b n) where
           pub write-blind : u .own ≡ false → at 8 (n + 1) ≡ decide (ruleOrder (history b n) (n + 1) (opOf (n + 1) r))
-          write-blind o = rw (rest, crossed-is, h, blind-is d, o)
+          write-blind o = rw (rest, conflict-is, h, blind-is d, o)
 
           pub write-matched : u .own ≡ true → mismatched (history b n) (opOf (n + 1) r) ≡ false → none ≡ decide (ruleOrder (history b n) (n + 1) (opOf (n + 1) r))
-          write-matched o x = rw (rest, crossed-is, h, blind-is d, o, x)
+          write-matched o x = rw (rest, conflict-is, h, blind-is d, o, x)
 
           module _ (o : u .own ≡ true) (p : Bool) (q : p ≡ not (unlikeStanding (history b n) (r .item .0) (r .before))) where
             last-is : decide (ruleOrder (history b n) (n + 1) (opOf (n + 1) r)) ≡ cond (unlikeStanding (history b n) (r .item .0) (r .before)) (at 9 (n + 1)) none
             unfolding unlikeStanding
-            last-is = rw (rest, crossed-is, h, blind-is d, o, mismatched-is)
+            last-is = rw (rest, conflict-is, h, blind-is d, o, mismatched-is)
 
             pub write-right : p ≡ true → none ≡ decide (ruleOrder (history b n) (n + 1) (opOf (n + 1) r))
             write-right x = rw (last-is, not-true (unlikeStanding (history b n) (r .item .0) (r .before)) (sym q ∙ x))
 
             pub write-wrong : p ≡ false → at 9 (n + 1) ≡ decide (ruleOrder (history b n) (n + 1) (opOf (n + 1) r))
             write-wrong x = rw (last-is, not-false (unlikeStanding (history b n) (r .item .0) (r .before)) (sym q ∙ x))
+
+    -- an end
+    pub rule-end : (end : ℕ) → end ≡ getD m (txIn r) 0 → end ≡ 0 → (r .kind ≡ 1 → ⊥) → (r .kind ≡ 2 → ⊥) → none ≡ decide (ruleOrder (history b n) (n + 1) (opOf (n + 1) r))
+    unfolding opOf conflicting blind mismatched
+    rule-end end q z c d = rw (rest (sym q ∙ z), ne-eqb (r .kind) 1 c, ne-eqb (r .kind) 2 d) (two (eqb (r .kind) 3) (eqb (r .kind) 4))
+      where
+        of : Bool → Bool → Op
+        of e g = cond e (commit (n + 1) (txIn r)) (cond g (abort (n + 1) (txIn r)) (other (n + 1) (txIn r)))
+
+        two : (e g : Bool)
+            → none ≡ orElse (cond (rules.conflicting (history b n) (of e g)) (at 7 (n + 1)) none) (orElse (cond (rules.blind (history b n) (of e g)) (at 8 (n + 1)) none) (cond (rules.mismatched (history b n) (of e g)) (at 9 (n + 1)) none))
+        two true g = refl
+        two false true = refl
+        two false false = refl
 
 -- ---- rule 9
 

@@ -8,7 +8,8 @@ use Prim.Native.Nat.{ℕ}
 use lib.IntN.{pos}
 use lib.Dec.{eqb}
 use Rattle.lists.specs.Search.{any, first, latest}
-use Rattle.model.specs.History.{Op, History, Amount, Tag, read, write, commit, abort, other, txOf, tagOf, tagIn, ofTx, afterOf, writeTo, beforeIn, sameAmount, standing}
+use Rattle.model.specs.History.{Op, History, Amount, Tag, read, write, commit, abort, other, txOf, tagOf, tagIn, ofTx, afterOf}
+use Rattle.model.specs.History.{writeTo, beforeIn, sameAmount, standing}
 
 -- ---- transactions
 

@@ -52,12 +52,14 @@ undoneLine s = flatten (labelled backWord (decimal s) ∷ newline ∷ [])
 
 -- ITEM x old new: an item and its amounts
 abbrev pub changeLine : ℕ → ℤ → ℤ → List ℕ
-changeLine x old new = flatten (labelled itemWord (decimal x) ∷ labelled space (decimalZ old) ∷ labelled space (decimalZ new) ∷ newline ∷ [])
+changeLine x old new =
+    flatten (labelled itemWord (decimal x) ∷ labelled space (decimalZ old) ∷ labelled space (decimalZ new) ∷ newline ∷ [])
 
 -- END s u a: transactions surviving (01: kept), undone (taken back), aborted (dropped)
 abbrev pub endLine : ℕ → ℕ → ℕ → List ℕ
 endLine surviving undone aborted =
-    flatten (labelled endWord (decimal surviving) ∷ labelled space (decimal undone) ∷ labelled space (decimal aborted) ∷ newline ∷ [])
+    flatten (labelled endWord (decimal surviving) ∷ labelled space (decimal undone) ∷ labelled space (decimal aborted) ∷ newline
+    ∷ [])
 
 -- REFUSED number place
 abbrev pub refusedLine : ℕ → ℕ → List ℕ

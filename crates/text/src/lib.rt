@@ -93,7 +93,8 @@ fn put_amount(out: &mut [u8], at: usize, word: &[u8], x: Signed) -> usize
 // One number.
 fn put_one(out: &mut [u8], at: usize, word: &[u8], x: u64) -> usize
     requires { ⌜ Fits at (flatten (labelled (now word) (decimal x) ∷ newline ∷ [])) (now out) ⌝ }
-    ensures { λ r. ⌜ Put at (flatten (labelled (now (word .entry)) (decimal x) ∷ newline ∷ [])) (now (out .entry)) (now (out .exit)) r ⌝ }
+    ensures { λ r. ⌜ Put at (flatten (labelled (now (word .entry)) (decimal x) ∷ newline ∷ [])) (now (out .entry))
+        (now (out .exit)) r ⌝ }
 {
     let a = put_number(out, at, word, x);
     put_word(out, a, b"\n")
@@ -101,8 +102,11 @@ fn put_one(out: &mut [u8], at: usize, word: &[u8], x: u64) -> usize
 
 // Two numbers.
 fn put_two(out: &mut [u8], at: usize, first: &[u8], x: u64, second: &[u8], y: u64) -> usize
-    requires { ⌜ Fits at (flatten (labelled (now first) (decimal x) ∷ labelled (now second) (decimal y) ∷ newline ∷ [])) (now out) ⌝ }
-    ensures { λ r. ⌜ Put at (flatten (labelled (now (first .entry)) (decimal x) ∷ labelled (now (second .entry)) (decimal y) ∷ newline ∷ [])) (now (out .entry)) (now (out .exit)) r ⌝ }
+    requires { ⌜ Fits at (flatten (labelled (now first) (decimal x) ∷ labelled (now second) (decimal y) ∷ newline ∷ []))
+        (now out) ⌝ }
+    ensures { λ r. ⌜ Put at
+        (flatten (labelled (now (first .entry)) (decimal x) ∷ labelled (now (second .entry)) (decimal y) ∷ newline ∷ []))
+        (now (out .entry)) (now (out .exit)) r ⌝ }
 {
     let a = put_number(out, at, first, x);
     put_one(out, a, second, y)
@@ -119,8 +123,12 @@ fn put_three(
     third: &[u8],
     z: u64,
 ) -> usize
-    requires { ⌜ Fits at (flatten (labelled (now first) (decimal x) ∷ labelled (now second) (decimal y) ∷ labelled (now third) (decimal z) ∷ newline ∷ [])) (now out) ⌝ }
-    ensures { λ r. ⌜ Put at (flatten (labelled (now (first .entry)) (decimal x) ∷ labelled (now (second .entry)) (decimal y) ∷ labelled (now (third .entry)) (decimal z) ∷ newline ∷ [])) (now (out .entry)) (now (out .exit)) r ⌝ }
+    requires { ⌜ Fits at
+        (flatten (labelled (now first) (decimal x) ∷ labelled (now second) (decimal y) ∷ labelled (now third) (decimal z) ∷ newline
+        ∷ [])) (now out) ⌝ }
+    ensures { λ r. ⌜ Put at
+        (flatten (labelled (now (first .entry)) (decimal x) ∷ labelled (now (second .entry)) (decimal y)
+        ∷ labelled (now (third .entry)) (decimal z) ∷ newline ∷ [])) (now (out .entry)) (now (out .exit)) r ⌝ }
 {
     let a = put_number(out, at, first, x);
     put_two(out, a, second, y, third, z)
@@ -129,7 +137,8 @@ fn put_three(
 // One signed number.
 fn put_one_amount(out: &mut [u8], at: usize, word: &[u8], x: Signed) -> usize
     requires { ⌜ Fits at (flatten (labelled (now word) (decimalS x) ∷ newline ∷ [])) (now out) ⌝ }
-    ensures { λ r. ⌜ Put at (flatten (labelled (now (word .entry)) (decimalS x) ∷ newline ∷ [])) (now (out .entry)) (now (out .exit)) r ⌝ }
+    ensures { λ r. ⌜ Put at (flatten (labelled (now (word .entry)) (decimalS x) ∷ newline ∷ [])) (now (out .entry))
+        (now (out .exit)) r ⌝ }
 {
     let a = put_amount(out, at, word, x);
     put_word(out, a, b"\n")
@@ -144,8 +153,11 @@ fn put_two_amounts(
     second: &[u8],
     y: Signed,
 ) -> usize
-    requires { ⌜ Fits at (flatten (labelled (now first) (decimalS x) ∷ labelled (now second) (decimalS y) ∷ newline ∷ [])) (now out) ⌝ }
-    ensures { λ r. ⌜ Put at (flatten (labelled (now (first .entry)) (decimalS x) ∷ labelled (now (second .entry)) (decimalS y) ∷ newline ∷ [])) (now (out .entry)) (now (out .exit)) r ⌝ }
+    requires { ⌜ Fits at (flatten (labelled (now first) (decimalS x) ∷ labelled (now second) (decimalS y) ∷ newline ∷ []))
+        (now out) ⌝ }
+    ensures { λ r. ⌜ Put at
+        (flatten (labelled (now (first .entry)) (decimalS x) ∷ labelled (now (second .entry)) (decimalS y) ∷ newline ∷ []))
+        (now (out .entry)) (now (out .exit)) r ⌝ }
 {
     let a = put_amount(out, at, first, x);
     put_one_amount(out, a, second, y)
@@ -162,8 +174,12 @@ fn put_number_and_amounts(
     third: &[u8],
     z: Signed,
 ) -> usize
-    requires { ⌜ Fits at (flatten (labelled (now first) (decimal x) ∷ labelled (now second) (decimalS y) ∷ labelled (now third) (decimalS z) ∷ newline ∷ [])) (now out) ⌝ }
-    ensures { λ r. ⌜ Put at (flatten (labelled (now (first .entry)) (decimal x) ∷ labelled (now (second .entry)) (decimalS y) ∷ labelled (now (third .entry)) (decimalS z) ∷ newline ∷ [])) (now (out .entry)) (now (out .exit)) r ⌝ }
+    requires { ⌜ Fits at
+        (flatten (labelled (now first) (decimal x) ∷ labelled (now second) (decimalS y) ∷ labelled (now third) (decimalS z)
+        ∷ newline ∷ [])) (now out) ⌝ }
+    ensures { λ r. ⌜ Put at
+        (flatten (labelled (now (first .entry)) (decimal x) ∷ labelled (now (second .entry)) (decimalS y)
+        ∷ labelled (now (third .entry)) (decimalS z) ∷ newline ∷ [])) (now (out .entry)) (now (out .exit)) r ⌝ }
 {
     let a = put_number(out, at, first, x);
     put_two_amounts(out, a, second, y, third, z)

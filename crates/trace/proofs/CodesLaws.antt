@@ -11,7 +11,7 @@ use lib.ListN.{length, getD, set, drop, replicate, length-set}
 use lib.Seq.{drop-cons, drop-length, ext-getD, getD-set-same, getD-set-other}
 use borrow.Author.Tests.{eqb-true, eqb-false, eq-eqb, ne-eqb, lt-ltb, le-ltb, ltb-true, ltb-false}
 use Rattle.lists.specs.Search.{member}
-use Rattle.lists.specs.Tables.{tabulate, number}
+use Rattle.lists.specs.Tables.{tabulate, countIf}
 use Rattle.lists.proofs.BoolLaws.{byCases}
 use Rattle.lists.proofs.TablesLaws.{length-tabulate, getD-tabulate, tabulate-ext, tabulate-getD, number-zero, number-last, number-bound}
 use Rattle.rules.proofs.ArraysLaws.{getD-of, tabulate-zeros}
@@ -89,12 +89,12 @@ flag-member m s h = rw (flags-at m s h) (byCases (member s m) (λ e. rw e) (λ e
 pub listed-start : (bad : List ℕ) (k : ℕ) → k ≡ length bad → replicate 1025 0 ≡ flagsOf (drop k bad)
 listed-start bad k e = rw (e, drop-length bad) flags-start
 
-pub listed-step : (bad flags flags' : List ℕ) (k s : ℕ) → (k ≡ 0 → ⊥) → k ≤ length bad → flags ≡ flagsOf (drop k bad) → s ≡ getD bad (k - 1) 0 → flags' ≡ set flags s 1
+pub listed-step : (bad flags flags' : List ℕ) (k : ℕ) → (k ≡ 0 → ⊥) → k ≤ length bad → flags ≡ flagsOf (drop k bad) → flags' ≡ set flags (getD bad (k - 1) 0) 1
     → flags' ≡ flagsOf (drop (k - 1) bad)
-listed-step bad flags flags' zero s z h e q w = absurd (z refl)
-listed-step bad flags flags' (suc j) s z h e q w =
+listed-step bad flags flags' zero z h e w = absurd (z refl)
+listed-step bad flags flags' (suc j) z h e w =
     let n : suc j - 1 ≡ j = omega arith in
-    w ∙ rw (e, q, n, drop-cons bad j 0 (omega arith)) (flags-more (drop (suc j) bad) (getD bad j 0))
+    w ∙ rw (e, n, drop-cons bad j 0 (omega arith)) (flags-more (drop (suc j) bad) (getD bad j 0))
 
 pub listed-done : (bad flags : List ℕ) (k : ℕ) → k ≡ 0 → flags ≡ flagsOf (drop k bad) → flags ≡ flagsOf bad
 listed-done bad flags k z e = e ∙ rw z
@@ -126,20 +126,20 @@ fates-done ends flags all zeros s h n a = a ∙ partly-done (fateAt ends flags) 
 
 -- ---- how many have a code
 
-pub number-start : (v : ℕ) (l : List ℕ) → 0 ≡ number (coded v l) 1 0
+pub number-start : (v : ℕ) (l : List ℕ) → 0 ≡ countIf (coded v l) 1 0
 number-start v l = sym (number-zero (coded v l) 1)
 
-pub number-step : (v : ℕ) (l : List ℕ) (i m e r : ℕ) → m ≡ number (coded v l) 1 i → e ≡ getD l (i + 1) 0 → r ≡ cond (eqb e v) (m + 1) m → r ≡ number (coded v l) 1 (i + 1)
+pub number-step : (v : ℕ) (l : List ℕ) (i m e r : ℕ) → m ≡ countIf (coded v l) 1 i → e ≡ getD l (i + 1) 0 → r ≡ cond (eqb e v) (m + 1) m → r ≡ countIf (coded v l) 1 (i + 1)
 unfolding coded
 number-step v l i m e r a b c =
     let z : i + 1 ≡ 1 + i = omega arith in
     let d : eqb e v ≡ coded v l (1 + i) = ap (λ k. eqb k v) (b ∙ ap (λ k. getD l k 0) z) in
     c ∙ rw (d, add-one m, a, add-one i, number-last (coded v l) 1 i)
 
-pub number-few : (v : ℕ) (l : List ℕ) (i m : ℕ) → i < 1024 → m ≡ number (coded v l) 1 i → m ≤ 3200
+pub number-few : (v : ℕ) (l : List ℕ) (i m : ℕ) → i < 1024 → m ≡ countIf (coded v l) 1 i → m ≤ 3200
 number-few v l i m h e = rw e (omega (arith, number-bound (coded v l) 1 i))
 
-pub number-done : (v : ℕ) (l : List ℕ) (i m : ℕ) → i ≤ 1024 → 1024 ≤ i → m ≡ number (coded v l) 1 i → m ≡ number (coded v l) 1 1024
+pub number-done : (v : ℕ) (l : List ℕ) (i m : ℕ) → i ≤ 1024 → 1024 ≤ i → m ≡ countIf (coded v l) 1 i → m ≡ countIf (coded v l) 1 1024
 number-done v l i m h k e = let z : 1024 ≡ i = omega arith in rw z e
 
 pub raised-yes : (c e v : ℕ) → e ≡ v → c + 1 ≡ cond (eqb e v) (c + 1) c

@@ -15,8 +15,8 @@ use Rattle.lists.proofs.BoolLaws.{byCases}
 use Rattle.format.specs.declared.Record.{Record}
 use Rattle.format.specs.Layout.{recordAt}
 use Rattle.model.specs.History.{Op, History, read, write, commit, abort, other}
-use Rattle.model.specs.Undo.{feeds, feedBy}
-use Rattle.model.proofs.FedLaws.{feeds-write}
+use Rattle.model.specs.Undo.{isSource, sourceBy}
+use Rattle.model.proofs.ReadsFromLaws.{isSource-write}
 use Rattle.journal.specs.Journal.{items, txIn, opOf, history}
 use Rattle.journal.proofs.Records.{txOf-opOf, history-zero, history-suc}
 use Rattle.journal.specs.Refusals.{malformed}
@@ -25,70 +25,67 @@ use Rattle.rules.proofs.Found.{Found, nothing, at, latest-found, passed-right, 
 use Rattle.rules.proofs.RuleLaws.{item-read}
 use Rattle.rules.proofs.ArraysLaws.{getD-of, tabulate-zeros, tabulate-same, op-read, op-write}
 use Rattle.trace.specs.Codes.{coded, flagsOf}
-use Rattle.trace.specs.Trace.{writerIn, feeder, feedersOf, traced, flagsRead, feedersWrite, flagsAfter, feedersAfter, feedersFrom, flagsFrom}
+use Rattle.trace.specs.Trace.{writerIn, source, sourcesOf, traced, flagsRead, sourcesWrite, flagsAfter, sourcesAfter, sourcesFrom, flagsFrom}
 use Rattle.trace.proofs.CodesLaws.{tabulate-put, flags-more, flag-member, length-flags}
 
 -- ---- one read, one write
 
-module _ (feeders flags : List ℕ) (s x f v : ℕ) (a : f ≡ getD feeders x 0) (b : v ≡ getD flags f 0) where
-  pub read-flagged : (l : List ℕ) → (f ≡ 0 → ⊥) → v ≡ 1 → l ≡ set flags s 1 → l ≡ flagsRead feeders s x flags
-  unfolding flagsRead coded
-  read-flagged l h e q = q ∙ rw (← a, ← b, ne-eqb f 0 h, e)
-
-  pub read-clean : (v ≡ 1 → ⊥) → flags ≡ flagsRead feeders s x flags
-  unfolding flagsRead coded
-  read-clean e = rw (← a, ← b, ne-eqb v 1 e) (go (eqb f 0))
-    where
-      go : (c : Bool) → flags ≡ cond (not c && false) (set flags s 1) flags
-      go true = refl
-      go false = refl
-
-  pub read-opening : f ≡ 0 → flags ≡ flagsRead feeders s x flags
+module _ (sources flags : List ℕ) (s x f : ℕ) (a : f ≡ getD sources x 0) where
+  pub read-opening : f ≡ 0 → flags ≡ flagsRead sources s x flags
   unfolding flagsRead coded
   read-opening e = rw (← a, e)
 
-module _ (ends feeders : List ℕ) (s x v : ℕ) (a : v ≡ getD ends s 0) where
-  pub write-feeds : (l : List ℕ) → v ≡ 1 → l ≡ set feeders x s → l ≡ feedersWrite ends s x feeders
-  unfolding feedersWrite coded
-  write-feeds l e q = q ∙ rw (← a, e)
+  module _ (v : ℕ) (b : v ≡ getD flags f 0) where
+    pub read-flagged : (l : List ℕ) → (f ≡ 0 → ⊥) → v ≡ 1 → l ≡ set flags s 1 → l ≡ flagsRead sources s x flags
+    unfolding flagsRead coded
+    read-flagged l h e q = q ∙ rw (← a, ← b, ne-eqb f 0 h, e)
 
-  pub write-idle : (v ≡ 1 → ⊥) → feeders ≡ feedersWrite ends s x feeders
-  unfolding feedersWrite coded
+    pub read-clean : (f ≡ 0 → ⊥) → (v ≡ 1 → ⊥) → flags ≡ flagsRead sources s x flags
+    unfolding flagsRead coded
+    read-clean h e = rw (← a, ← b, ne-eqb f 0 h, ne-eqb v 1 e)
+
+module _ (ends sources : List ℕ) (s x v : ℕ) (a : v ≡ getD ends s 0) where
+  pub write-isSource : (l : List ℕ) → v ≡ 1 → l ≡ set sources x s → l ≡ sourcesWrite ends s x sources
+  unfolding sourcesWrite coded
+  write-isSource l e q = q ∙ rw (← a, e)
+
+  pub write-idle : (v ≡ 1 → ⊥) → sources ≡ sourcesWrite ends s x sources
+  unfolding sourcesWrite coded
   write-idle e = rw (← a, ne-eqb v 1 e)
 
 -- ---- one record, by its kind
 
-module _ (i : ℕ) (r q : Record) (h : r ≡ q) (ends feeders flags : List ℕ) where
-  pub flags-read : (l : List ℕ) → r .kind ≡ 1 → l ≡ flagsRead feeders (txIn r) (r .item .0) flags → l ≡ flagsAfter (opOf i q) feeders flags
+module _ (i : ℕ) (r q : Record) (h : r ≡ q) (ends sources flags : List ℕ) where
+  pub flags-read : (l : List ℕ) → r .kind ≡ 1 → l ≡ flagsRead sources (txIn r) (r .item .0) flags → l ≡ flagsAfter (opOf i q) sources flags
   unfolding flagsAfter
   flags-read l k e = e ∙ rw (← h, op-read i r k)
 
-  pub feeders-read : r .kind ≡ 1 → feeders ≡ feedersAfter (opOf i q) ends feeders
-  unfolding feedersAfter
-  feeders-read k = rw (← h, op-read i r k)
+  pub sources-read : r .kind ≡ 1 → sources ≡ sourcesAfter (opOf i q) ends sources
+  unfolding sourcesAfter
+  sources-read k = rw (← h, op-read i r k)
 
-  pub flags-write : r .kind ≡ 2 → flags ≡ flagsAfter (opOf i q) feeders flags
+  pub flags-write : r .kind ≡ 2 → flags ≡ flagsAfter (opOf i q) sources flags
   unfolding flagsAfter
   flags-write k = rw (← h, op-write i r k)
 
-  pub feeders-write : (l : List ℕ) → r .kind ≡ 2 → l ≡ feedersWrite ends (txIn r) (r .item .0) feeders → l ≡ feedersAfter (opOf i q) ends feeders
-  unfolding feedersAfter
-  feeders-write l k e = e ∙ rw (← h, op-write i r k, feeds-write i (txIn r) (r .item .0) (r .before) (r .after))
+  pub sources-write : (l : List ℕ) → r .kind ≡ 2 → l ≡ sourcesWrite ends (txIn r) (r .item .0) sources → l ≡ sourcesAfter (opOf i q) ends sources
+  unfolding sourcesAfter
+  sources-write l k e = e ∙ rw (← h, op-write i r k, isSource-write i (txIn r) (r .item .0) (r .before) (r .after))
 
-  pub flags-other : (r .kind ≡ 1 → ⊥) → (r .kind ≡ 2 → ⊥) → flags ≡ flagsAfter (opOf i q) feeders flags
+  pub flags-other : (r .kind ≡ 1 → ⊥) → (r .kind ≡ 2 → ⊥) → flags ≡ flagsAfter (opOf i q) sources flags
   unfolding flagsAfter opOf
   flags-other k l = rw (← h, ne-eqb (r .kind) 1 k, ne-eqb (r .kind) 2 l) (two (eqb (r .kind) 3) (eqb (r .kind) 4))
     where
-      two : (c d : Bool) → flags ≡ flagsAfter (cond c (commit i (txIn r)) (cond d (abort i (txIn r)) (other i (txIn r)))) feeders flags
+      two : (c d : Bool) → flags ≡ flagsAfter (cond c (commit i (txIn r)) (cond d (abort i (txIn r)) (other i (txIn r)))) sources flags
       two true d = refl
       two false true = refl
       two false false = refl
 
-  pub feeders-other : (r .kind ≡ 1 → ⊥) → (r .kind ≡ 2 → ⊥) → feeders ≡ feedersAfter (opOf i q) ends feeders
-  unfolding feedersAfter opOf
-  feeders-other k l = rw (← h, ne-eqb (r .kind) 1 k, ne-eqb (r .kind) 2 l) (two (eqb (r .kind) 3) (eqb (r .kind) 4))
+  pub sources-other : (r .kind ≡ 1 → ⊥) → (r .kind ≡ 2 → ⊥) → sources ≡ sourcesAfter (opOf i q) ends sources
+  unfolding sourcesAfter opOf
+  sources-other k l = rw (← h, ne-eqb (r .kind) 1 k, ne-eqb (r .kind) 2 l) (two (eqb (r .kind) 3) (eqb (r .kind) 4))
     where
-      two : (c d : Bool) → feeders ≡ feedersAfter (cond c (commit i (txIn r)) (cond d (abort i (txIn r)) (other i (txIn r)))) ends feeders
+      two : (c d : Bool) → sources ≡ sourcesAfter (cond c (commit i (txIn r)) (cond d (abort i (txIn r)) (other i (txIn r)))) ends sources
       two true d = refl
       two false true = refl
       two false false = refl
@@ -98,37 +95,37 @@ module _ (i : ℕ) (r q : Record) (h : r ≡ q) (ends feeders flags : List ℕ) 
 pub flags-count : (m l : List ℕ) → l ≡ flagsOf m → 1025 ≡ length l
 flags-count m l e = rw (e, length-flags m)
 
-feeders-start : (c : ℕ → Bool) → replicate 1024 0 ≡ feedersOf c []
-unfolding feedersOf
-feeders-start c = tabulate-zeros _ 1024 (λ j. refl)
+sources-start : (c : ℕ → Bool) → replicate 1024 0 ≡ sourcesOf c []
+unfolding sourcesOf
+sources-start c = tabulate-zeros _ 1024 (λ j. refl)
 
-feeders-op : (ends : List ℕ) (p : History) (r : Op) → feedersAfter r ends (feedersOf (coded 1 ends) p) ≡ feedersOf (coded 1 ends) (r ∷ p)
-unfolding feedersAfter feedersWrite feedersOf
-feeders-op ends p (read t s x) = tabulate-same _ _ 1024 (λ j. refl)
-feeders-op ends p (write t s x b a) =
-    byCases (feeds (write t s x b a))
+sources-op : (ends : List ℕ) (p : History) (r : Op) → sourcesAfter r ends (sourcesOf (coded 1 ends) p) ≡ sourcesOf (coded 1 ends) (r ∷ p)
+unfolding sourcesAfter sourcesWrite sourcesOf
+sources-op ends p (read t s x) = tabulate-same _ _ 1024 (λ j. refl)
+sources-op ends p (write t s x b a) =
+    byCases (isSource (write t s x b a))
     (λ f. rw f
     (byCases (coded 1 ends s)
-    (λ e. rw e (tabulate-put (feeder (coded 1 ends) p) (feeder (coded 1 ends) (write t s x b a ∷ p)) 1024 x s 0 (rw (eq-eqb x x refl, e, f)) (λ j q. rw q)))
+    (λ e. rw e (tabulate-put (source (coded 1 ends) p) (source (coded 1 ends) (write t s x b a ∷ p)) 1024 x s 0 (rw (eq-eqb x x refl, e, f)) (λ j q. rw q)))
     (λ e. rw e (tabulate-same _ _ 1024 (λ j. rw (e, and-false (eqb j x)))))))
     (λ f. rw f (tabulate-same _ _ 1024 (λ j. rw (f, and-false (eqb j x && coded 1 ends s)))))
-feeders-op ends p (commit t s) = tabulate-same _ _ 1024 (λ j. refl)
-feeders-op ends p (abort t s) = tabulate-same _ _ 1024 (λ j. refl)
-feeders-op ends p (other t s) = tabulate-same _ _ 1024 (λ j. refl)
+sources-op ends p (commit t s) = tabulate-same _ _ 1024 (λ j. refl)
+sources-op ends p (abort t s) = tabulate-same _ _ 1024 (λ j. refl)
+sources-op ends p (other t s) = tabulate-same _ _ 1024 (λ j. refl)
 
 -- a read of an item that is below 1,024, fed by a transaction that is not above 1,024
 abbrev Narrow : (ℕ → Bool) → History → Op → Type 0
-Narrow c p (read t s x) = (x < 1024) × (feeder c p x < 1025)
+Narrow c p (read t s x) = (x < 1024) × (source c p x < 1025)
 Narrow c p (write t s x b a) = Unit {0}
 Narrow c p (commit t s) = Unit {0}
 Narrow c p (abort t s) = Unit {0}
 Narrow c p (other t s) = Unit {0}
 
-flags-op : (c : ℕ → Bool) (bad : List ℕ) (p : History) (r : Op) → Narrow c p r → flagsAfter r (feedersOf c p) (flagsOf (traced c bad p)) ≡ flagsOf (traced c bad (r ∷ p))
-unfolding flagsAfter flagsRead feedersOf coded
+flags-op : (c : ℕ → Bool) (bad : List ℕ) (p : History) (r : Op) → Narrow c p r → flagsAfter r (sourcesOf c p) (flagsOf (traced c bad p)) ≡ flagsOf (traced c bad (r ∷ p))
+unfolding flagsAfter flagsRead sourcesOf coded
 flags-op c bad p (read t s x) n =
-    rw (getD-of (feeder c p) 1024 x 0 (n .0), flag-member (traced c bad p) (feeder c p x) (n .1))
-    (byCases (not (eqb (feeder c p x) 0) && member (feeder c p x) (traced c bad p)) (λ e. rw e (flags-more (traced c bad p) s)) (λ e. rw e))
+    rw (getD-of (source c p) 1024 x 0 (n .0), flag-member (traced c bad p) (source c p x) (n .1))
+    (byCases (not (eqb (source c p x) 0) && member (source c p x) (traced c bad p)) (λ e. rw e (flags-more (traced c bad p) s)) (λ e. rw e))
 flags-op c bad p (write t s x b a) n = refl
 flags-op c bad p (commit t s) n = refl
 flags-op c bad p (abort t s) n = refl
@@ -147,7 +144,7 @@ module _ (b : List ℕ) (n i : ℕ) (k : Ready b n) (h : i < n) where
   narrow-at c =
       let r = recordAt b (suc i) in
       byCases (eqb (r .kind) 1)
-      (λ e. rw e (item-read b n r k formed-at (eqb-true (r .kind) 1 e), writer-range b n i k (omega arith) (latest-found (feedBy feeds c (r .item .0)) b i)))
+      (λ e. rw e (item-read b n r k formed-at (eqb-true (r .kind) 1 e), writer-range b n i k (omega arith) (latest-found (sourceBy isSource c (r .item .0)) b i)))
       (λ e. rw e (three r (eqb (r .kind) 2) (eqb (r .kind) 3) (eqb (r .kind) 4)))
     where
       three : (r : Record) (l m o : Bool) → Narrow c (history b i) (cond l (write (suc i) (txIn r) (r .item .0) (r .before) (r .after)) (cond m (commit (suc i) (txIn r)) (cond o (abort (suc i) (txIn r)) (other (suc i) (txIn r)))))
@@ -158,38 +155,38 @@ module _ (b : List ℕ) (n i : ℕ) (k : Ready b n) (h : i < n) where
 
 -- ---- the pass
 
-pub feeders-first : (b ends feeders : List ℕ) → feeders ≡ feedersFrom ends (history b 0) feeders
-unfolding feedersFrom
-feeders-first b ends feeders = rw history-zero
+pub sources-first : (b ends sources : List ℕ) → sources ≡ sourcesFrom ends (history b 0) sources
+unfolding sourcesFrom
+sources-first b ends sources = rw history-zero
 
-pub flags-first : (b ends feeders flags : List ℕ) → flags ≡ flagsFrom ends (history b 0) feeders flags
+pub flags-first : (b ends sources flags : List ℕ) → flags ≡ flagsFrom ends (history b 0) sources flags
 unfolding flagsFrom
-flags-first b ends feeders flags = rw history-zero
+flags-first b ends sources flags = rw history-zero
 
-module _ (b : List ℕ) (i : ℕ) (ends feeders₀ feeders : List ℕ) (e : feeders ≡ feedersFrom ends (history b i) feeders₀) where
-  pub feeders-step : (l : List ℕ) → l ≡ feedersAfter (opOf (i + 1) (recordAt b (i + 1))) ends feeders → l ≡ feedersFrom ends (history b (i + 1)) feeders₀
-  unfolding feedersFrom
-  feeders-step l q = let z = add-one i in q ∙ rw (z, e, history-suc b i)
+module _ (b : List ℕ) (i : ℕ) (ends sources₀ sources : List ℕ) (e : sources ≡ sourcesFrom ends (history b i) sources₀) where
+  pub sources-step : (l : List ℕ) → l ≡ sourcesAfter (opOf (i + 1) (recordAt b (i + 1))) ends sources → l ≡ sourcesFrom ends (history b (i + 1)) sources₀
+  unfolding sourcesFrom
+  sources-step l q = let z = add-one i in q ∙ rw (z, e, history-suc b i)
 
-  pub flags-step : (flags₀ flags l : List ℕ) → flags ≡ flagsFrom ends (history b i) feeders₀ flags₀ → l ≡ flagsAfter (opOf (i + 1) (recordAt b (i + 1))) feeders flags
-      → l ≡ flagsFrom ends (history b (i + 1)) feeders₀ flags₀
+  pub flags-step : (flags₀ flags l : List ℕ) → flags ≡ flagsFrom ends (history b i) sources₀ flags₀ → l ≡ flagsAfter (opOf (i + 1) (recordAt b (i + 1))) sources flags
+      → l ≡ flagsFrom ends (history b (i + 1)) sources₀ flags₀
   unfolding flagsFrom
   flags-step flags₀ flags l f q = let z = add-one i in q ∙ rw (z, e, f, history-suc b i)
 
-pub feeders-done : (b ends feeders₀ feeders : List ℕ) (n i : ℕ) → i ≤ n → n ≤ i → feeders ≡ feedersFrom ends (history b i) feeders₀ → feeders ≡ feedersFrom ends (history b n) feeders₀
-feeders-done b ends feeders₀ feeders n i h l e = let z : n ≡ i = omega arith in rw z e
+pub sources-done : (b ends sources₀ sources : List ℕ) (n i : ℕ) → i ≤ n → n ≤ i → sources ≡ sourcesFrom ends (history b i) sources₀ → sources ≡ sourcesFrom ends (history b n) sources₀
+sources-done b ends sources₀ sources n i h l e = let z : n ≡ i = omega arith in rw z e
 
-pub flags-done : (b ends feeders₀ flags₀ flags : List ℕ) (n i : ℕ) → i ≤ n → n ≤ i → flags ≡ flagsFrom ends (history b i) feeders₀ flags₀ → flags ≡ flagsFrom ends (history b n) feeders₀ flags₀
-flags-done b ends feeders₀ flags₀ flags n i h l e = let z : n ≡ i = omega arith in rw z e
+pub flags-done : (b ends sources₀ flags₀ flags : List ℕ) (n i : ℕ) → i ≤ n → n ≤ i → flags ≡ flagsFrom ends (history b i) sources₀ flags₀ → flags ≡ flagsFrom ends (history b n) sources₀ flags₀
+flags-done b ends sources₀ flags₀ flags n i h l e = let z : n ≡ i = omega arith in rw z e
 
--- from no feeder at all and the flags of the list it is the trace
+-- from no source at all and the flags of the list it is the trace
 
-feeders-all : (b ends : List ℕ) (n : ℕ) → feedersFrom ends (history b n) (replicate 1024 0) ≡ feedersOf (coded 1 ends) (history b n)
-unfolding feedersFrom
-feeders-all b ends zero = rw history-zero (feeders-start (coded 1 ends))
-feeders-all b ends (suc n) =
+sources-all : (b ends : List ℕ) (n : ℕ) → sourcesFrom ends (history b n) (replicate 1024 0) ≡ sourcesOf (coded 1 ends) (history b n)
+unfolding sourcesFrom
+sources-all b ends zero = rw history-zero (sources-start (coded 1 ends))
+sources-all b ends (suc n) =
     rw (history-suc b n)
-    (ap (feedersAfter (opOf (suc n) (recordAt b (suc n))) ends) (feeders-all b ends n) ∙ feeders-op ends (history b n) (opOf (suc n) (recordAt b (suc n))))
+    (ap (sourcesAfter (opOf (suc n) (recordAt b (suc n))) ends) (sources-all b ends n) ∙ sources-op ends (history b n) (opOf (suc n) (recordAt b (suc n))))
 
 flags-all : (b ends bad : List ℕ) (n i : ℕ) → Ready b n → i ≤ n
     → flagsFrom ends (history b i) (replicate 1024 0) (flagsOf bad) ≡ flagsOf (traced (coded 1 ends) bad (history b i))
@@ -197,7 +194,7 @@ unfolding flagsFrom
 flags-all b ends bad n zero k h = rw history-zero
 flags-all b ends bad n (suc i) k h =
     rw (history-suc b i)
-    (rw (feeders-all b ends i, flags-all b ends bad n i k (omega arith))
+    (rw (sources-all b ends i, flags-all b ends bad n i k (omega arith))
     (flags-op (coded 1 ends) bad (history b i) (opOf (suc i) (recordAt b (suc i))) (narrow-at b n i k (omega arith) (coded 1 ends))))
 
 pub trace-done : (b ends bad flags₀ flags : List ℕ) (n : ℕ) → Ready b n → flags₀ ≡ flagsOf bad → flags ≡ flagsFrom ends (history b n) (replicate 1024 0) flags₀

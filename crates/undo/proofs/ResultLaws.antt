@@ -13,15 +13,15 @@ use Rattle.lists.specs.Tables.{coded}
 use Rattle.lists.proofs.BoolLaws.{byCases, not-neither}
 use Rattle.lists.proofs.TablesLaws.{none-behind}
 use Rattle.model.specs.History.{Amount}
-use Rattle.model.specs.Undo.{feeds, surviving, undone}
-use Rattle.journal.specs.Inputs.{lent}
+use Rattle.model.specs.Undo.{isSource, surviving, undone}
+use Rattle.journal.specs.Inputs.{inputsOf}
 use Rattle.journal.specs.declared.Reason.{Reason}
 use Rattle.journal.specs.Reasons.{numberOf, placeOf}
 use Rattle.journal.specs.Journal.{count, history, whole}
 use Rattle.journal.specs.Refusals.{stillActive, unknown, wrongStatus, tooShort}
 use Rattle.journal.specs.Orders.{Refusal, inTurn, activeOrder, knownOrder, statusOrder, capacityOrder, checkOrder, undoOrder, decide}
-use Rattle.journal.specs.Copy.{unchanged, copyKept, copy}
-use Rattle.journal.specs.Results.{Answer, refused, answered, Counts, statuses, result}
+use Rattle.journal.specs.Copy.{unchanged, copySurviving, copy}
+use Rattle.journal.specs.Results.{Answer, refused, answered, UndoTotals, statuses, result}
 use Rattle.journal.specs.Calls as calls
 use Rattle.journal.proofs.OrdersLaws.{orElse-none, orElse-assoc, decide-over, decide-turn, decide-one, decide-turns, tryEach-ext}
 use Rattle.journal.proofs.Clear.{decide-clear, turns-clear, try-clear}
@@ -39,35 +39,35 @@ use Rattle.deliver.specs.Delivery.{Deliverable, delivered}
 
 module _ (b : List ℕ) (t : List Amount) (bad status out : List ℕ) where
   -- the answer, and the table, the statuses and the output buffer afterwards
-  abbrev pub Result : Answer Counts → List Amount → List ℕ → List ℕ → Type 0
+  abbrev pub Result : Answer UndoTotals → List Amount → List ℕ → List ℕ → Type 0
   Result a t' status' out' =
-      (a ≡ calls.undo (lent b t) bad status out .answer) × ((t' ≡ calls.undo (lent b t) bad status out .table) × ((status' ≡ calls.undo (lent b t) bad status out .status) × (out' ≡ calls.undo (lent b t) bad status out .out)))
+      (a ≡ calls.undo (inputsOf b t) bad status out .answer) × ((t' ≡ calls.undo (inputsOf b t) bad status out .table) × ((status' ≡ calls.undo (inputsOf b t) bad status out .status) × (out' ≡ calls.undo (inputsOf b t) bad status out .out)))
 
   -- a refusal writes nothing
-  refuses : (r : Refusal) → decide (undoOrder (lent b t) bad status out (length (copy bad b))) ≡ some r → Result (refused (r .number) (r .place)) t status out
+  refuses : (r : Refusal) → decide (undoOrder (inputsOf b t) bad status out (length (copy bad b))) ≡ some r → Result (refused (r .number) (r .place)) t status out
   unfolding calls.undo result
   refuses r e = (rw e, (rw e, (rw e, rw e)))
 
-  order-parts : (z : ℕ) → decide (undoOrder (lent b t) bad status out z)
-      ≡ orElse (decide (examinedOrder (lent b t))) (orElse (decide (statusOrder status)) (orElse (decide (knownOrder (unknown b) bad)) (decide (capacityOrder out z))))
+  order-parts : (z : ℕ) → decide (undoOrder (inputsOf b t) bad status out z)
+      ≡ orElse (decide (examinedOrder (inputsOf b t))) (orElse (decide (statusOrder status)) (orElse (decide (knownOrder (unknown b) bad)) (decide (capacityOrder out z))))
   unfolding undoOrder examinedOrder
   order-parts z =
-      decide-turns (checkOrder (lent b t) ∷ activeOrder (stillActive b) ∷ []) (statusOrder status ∷ knownOrder (unknown b) bad ∷ capacityOrder out z ∷ [])
-      ∙ ap (orElse (decide (inTurn (checkOrder (lent b t) ∷ activeOrder (stillActive b) ∷ [])))) (simp (decide-turn, decide-over, orElse-none))
+      decide-turns (checkOrder (inputsOf b t) ∷ activeOrder (stillActive b) ∷ []) (statusOrder status ∷ knownOrder (unknown b) bad ∷ capacityOrder out z ∷ [])
+      ∙ ap (orElse (decide (inTurn (checkOrder (inputsOf b t) ∷ activeOrder (stillActive b) ∷ [])))) (simp (decide-turn, decide-over, orElse-none))
 
   -- 1 to 11
-  pub result-head : (h : Headed) (why : Reason) → headerOf h ≡ answered (decide (examinedOrder (lent b t))) (sizeOf b) → h ≡ headed.Refused why
+  pub result-head : (h : Headed) (why : Reason) → headerOf h ≡ answered (decide (examinedOrder (inputsOf b t))) (sizeOf b) → h ≡ headed.Refused why
       → Result (refused (numberOf why) (placeOf why)) t status out
   result-head h why q e =
-      let d = refused-only (numberOf why) (placeOf why) (decide (examinedOrder (lent b t))) _ (sym (ap headerOf e) ∙ q) in
+      let d = refused-only (numberOf why) (placeOf why) (decide (examinedOrder (inputsOf b t))) _ (sym (ap headerOf e) ∙ q) in
       refuses (refusalOf why) (order-parts (length (copy bad b)) ∙ rw d)
 
-  module _ (n m : ℕ) (ends : List ℕ) (x : Examined (examinedOrder (lent b t)) b n m ends) where
+  module _ (n m : ℕ) (ends : List ℕ) (x : Examined (examinedOrder (inputsOf b t)) b n m ends) where
     known-same : knownOrder (unknown b) bad ≡ knownOrder (unknownIn ends) bad
     unfolding knownOrder unknownIn unknown whole
     known-same = tryEach-ext 12 _ _ 0 (length bad) (λ k l u. rw (coded-committed b n (x .ready) ends (x .ended) (getD bad k 0), ← x .counted))
 
-    decides : (z : ℕ) → decide (undoOrder (lent b t) bad status out z) ≡ orElse (decide (admitOrder ends bad status)) (decide (capacityOrder out z))
+    decides : (z : ℕ) → decide (undoOrder (inputsOf b t) bad status out z) ≡ orElse (decide (admitOrder ends bad status)) (decide (capacityOrder out z))
     unfolding admitOrder
     decides z =
         order-parts z ∙ rw (x .passed, known-same)
@@ -83,10 +83,10 @@ module _ (b : List ℕ) (t : List Amount) (bad status out : List ℕ) where
       status-right = let (c13, rest) = turns-clear _ (decide-clear _ a) in eqb-true _ _ (not-neither _ (try-clear 13 _ _ c13))
 
       module _ (fates : List ℕ) (f : fates ≡ statuses bad (history b n)) where
-        kept-is : coded 1 fates ≡ surviving feeds bad (history b n)
-        kept-is = coded-surviving b n (x .ready) bad fates f
+        surviving-is : coded 1 fates ≡ surviving isSource bad (history b n)
+        surviving-is = coded-surviving b n (x .ready) bad fates f
 
-        undone-is : coded 2 fates ≡ undone feeds bad (history b n)
+        undone-is : coded 2 fates ≡ undone isSource bad (history b n)
         unfolding coded
         undone-is =
             fun-ext (λ s. byCases (ltb s 1025)
@@ -103,17 +103,17 @@ module _ (b : List ℕ) (t : List Amount) (bad status out : List ℕ) where
               counted = x .counted;
               keys = x .keys;
               ended = x .ended;
-              fated = f ∙ rw (← kept-is, ← undone-is);
-              marked = status-right;
+              fated = f ∙ rw (← surviving-is, ← undone-is);
+              statusLength = status-right;
             }
 
-        same : delivered (lent b t) fates status out ≡ calls.undo (lent b t) bad status out
+        same : delivered (inputsOf b t) fates status out ≡ calls.undo (inputsOf b t) bad status out
         unfolding delivered calls.undo copy whole
         same =
-            rw (kept-is, undone-is, x .counted, decides (length (copyKept unchanged (surviving feeds bad (history b (count b))) b)), a)
+            rw (surviving-is, undone-is, x .counted, decides (length (copySurviving unchanged (surviving isSource bad (history b (count b))) b)), a)
 
         -- it delivers take-back's result
-        pub result-delivered : (r : Answer Counts) (t' : List Amount) (status' out' : List ℕ)
-            → (r ≡ delivered (lent b t) fates status out .answer) × ((t' ≡ delivered (lent b t) fates status out .table) × ((status' ≡ delivered (lent b t) fates status out .status) × (out' ≡ delivered (lent b t) fates status out .out)))
+        pub result-delivered : (r : Answer UndoTotals) (t' : List Amount) (status' out' : List ℕ)
+            → (r ≡ delivered (inputsOf b t) fates status out .answer) × ((t' ≡ delivered (inputsOf b t) fates status out .table) × ((status' ≡ delivered (inputsOf b t) fates status out .status) × (out' ≡ delivered (inputsOf b t) fates status out .out)))
             → Result r t' status' out'
         result-delivered r t' status' out' q = rw same at q

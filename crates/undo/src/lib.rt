@@ -1,7 +1,7 @@
 // Take-back: first everything is decided, then the table, the statuses and the copy are written.
 ghost use mathlib.Core.Path.{_≡_};
 ghost use mathlib.Core.Option.{none};
-ghost use Rattle.journal.specs.Inputs.{lent};
+ghost use Rattle.journal.specs.Inputs.{inputsOf};
 ghost use Rattle.journal.specs.Orders.{decide};
 ghost use Rattle.journal.specs.Calls as calls;
 ghost use Rattle.examine.specs.Stages.{admitOrder, examinedOrder, Examined};
@@ -11,6 +11,7 @@ use deliver::deliver;
 use examine::admit;
 use examine::examine;
 use fields::Headed;
+use format::TRANSACTION_SLOTS;
 use journal::Reason;
 use rules::Verdict;
 use trace::classify;
@@ -18,7 +19,7 @@ use trace::classify;
 // Take-back of a journal of n records and this many items that 1 to 13 do not refuse.
 fn undo_admitted(
     journal: &[u8],
-    n: usize,
+    n: u32,
     keys: u32,
     ends: &[u8],
     table: &mut [i32],
@@ -26,11 +27,20 @@ fn undo_admitted(
     status: &mut [u8],
     out: &mut [u8],
 ) -> Undone
-    requires { ⌜ Examined (examinedOrder (lent (now journal) (now table))) (now journal) n keys (now ends) × (decide (admitOrder (now ends) (now bad) (now status)) ≡ none) ⌝ }
-    ensures answer { λ r. ⌜ answerOf r ≡ calls.undo (lent (now (journal .entry)) (now (table .entry))) (now (bad .entry)) (now (status .entry)) (now (out .entry)) .answer ⌝ }
-    ensures table { λ r. ⌜ now (table .exit) ≡ calls.undo (lent (now (journal .entry)) (now (table .entry))) (now (bad .entry)) (now (status .entry)) (now (out .entry)) .table ⌝ }
-    ensures status { λ r. ⌜ now (status .exit) ≡ calls.undo (lent (now (journal .entry)) (now (table .entry))) (now (bad .entry)) (now (status .entry)) (now (out .entry)) .status ⌝ }
-    ensures out { λ r. ⌜ now (out .exit) ≡ calls.undo (lent (now (journal .entry)) (now (table .entry))) (now (bad .entry)) (now (status .entry)) (now (out .entry)) .out ⌝ }
+    requires { ⌜ Examined (examinedOrder (inputsOf (now journal) (now table))) (now journal) n keys (now ends)
+        × (decide (admitOrder (now ends) (now bad) (now status)) ≡ none) ⌝ }
+    ensures answer { λ r. ⌜ answerOf r
+        ≡ calls.undo (inputsOf (now (journal .entry)) (now (table .entry))) (now (bad .entry)) (now (status .entry))
+        (now (out .entry)) .answer ⌝ }
+    ensures table { λ r. ⌜ now (table .exit)
+        ≡ calls.undo (inputsOf (now (journal .entry)) (now (table .entry))) (now (bad .entry)) (now (status .entry))
+        (now (out .entry)) .table ⌝ }
+    ensures status { λ r. ⌜ now (status .exit)
+        ≡ calls.undo (inputsOf (now (journal .entry)) (now (table .entry))) (now (bad .entry)) (now (status .entry))
+        (now (out .entry)) .status ⌝ }
+    ensures out { λ r. ⌜ now (out .exit)
+        ≡ calls.undo (inputsOf (now (journal .entry)) (now (table .entry))) (now (bad .entry)) (now (status .entry))
+        (now (out .entry)) .out ⌝ }
 {
     let fates = classify(journal, n, ends, bad);
     deliver(journal, n, keys, ends, &fates, table, status, out)
@@ -39,7 +49,7 @@ fn undo_admitted(
 // The same, where 1 to 11 do not refuse it.
 fn undo_examined(
     journal: &[u8],
-    n: usize,
+    n: u32,
     keys: u32,
     ends: &[u8],
     table: &mut [i32],
@@ -47,24 +57,32 @@ fn undo_examined(
     status: &mut [u8],
     out: &mut [u8],
 ) -> Undone
-    requires { ⌜ Examined (examinedOrder (lent (now journal) (now table))) (now journal) n keys (now ends) ⌝ }
-    ensures answer { λ r. ⌜ answerOf r ≡ calls.undo (lent (now (journal .entry)) (now (table .entry))) (now (bad .entry)) (now (status .entry)) (now (out .entry)) .answer ⌝ }
-    ensures table { λ r. ⌜ now (table .exit) ≡ calls.undo (lent (now (journal .entry)) (now (table .entry))) (now (bad .entry)) (now (status .entry)) (now (out .entry)) .table ⌝ }
-    ensures status { λ r. ⌜ now (status .exit) ≡ calls.undo (lent (now (journal .entry)) (now (table .entry))) (now (bad .entry)) (now (status .entry)) (now (out .entry)) .status ⌝ }
-    ensures out { λ r. ⌜ now (out .exit) ≡ calls.undo (lent (now (journal .entry)) (now (table .entry))) (now (bad .entry)) (now (status .entry)) (now (out .entry)) .out ⌝ }
+    requires { ⌜ Examined (examinedOrder (inputsOf (now journal) (now table))) (now journal) n keys (now ends) ⌝ }
+    ensures answer { λ r. ⌜ answerOf r
+        ≡ calls.undo (inputsOf (now (journal .entry)) (now (table .entry))) (now (bad .entry)) (now (status .entry))
+        (now (out .entry)) .answer ⌝ }
+    ensures table { λ r. ⌜ now (table .exit)
+        ≡ calls.undo (inputsOf (now (journal .entry)) (now (table .entry))) (now (bad .entry)) (now (status .entry))
+        (now (out .entry)) .table ⌝ }
+    ensures status { λ r. ⌜ now (status .exit)
+        ≡ calls.undo (inputsOf (now (journal .entry)) (now (table .entry))) (now (bad .entry)) (now (status .entry))
+        (now (out .entry)) .status ⌝ }
+    ensures out { λ r. ⌜ now (out .exit)
+        ≡ calls.undo (inputsOf (now (journal .entry)) (now (table .entry))) (now (bad .entry)) (now (status .entry))
+        (now (out .entry)) .out ⌝ }
 {
     let admitted = admit(ends, bad, status);
     let Verdict::Passed = admitted else {
-        let Verdict::Refused(why) = admitted else {
+        let Verdict::Refused(reason) = admitted else {
             return Undone::Refused(Reason::StatusLength);
         };
-        return Undone::Refused(why);
+        return Undone::Refused(reason);
     };
     undo_admitted(journal, n, keys, ends, table, bad, status, out)
 }
 
-// Takes back the listed transactions and those that read from them: the table, the status of each transaction number and the copy, at
-// the front of `out`; or a refusal, which writes nothing (document 01, take-back).
+// Takes back the listed transactions and those that read from them: the table, the status of each transaction number and the copy,
+// at the front of `out`; or a refusal, which writes nothing (document 01, take-back).
 pub fn undo(
     journal: &[u8],
     table: &mut [i32],
@@ -72,18 +90,26 @@ pub fn undo(
     status: &mut [u8],
     out: &mut [u8],
 ) -> Undone
-    ensures answer { λ r. ⌜ answerOf r ≡ calls.undo (lent (now (journal .entry)) (now (table .entry))) (now (bad .entry)) (now (status .entry)) (now (out .entry)) .answer ⌝ }
-    ensures table { λ r. ⌜ now (table .exit) ≡ calls.undo (lent (now (journal .entry)) (now (table .entry))) (now (bad .entry)) (now (status .entry)) (now (out .entry)) .table ⌝ }
-    ensures status { λ r. ⌜ now (status .exit) ≡ calls.undo (lent (now (journal .entry)) (now (table .entry))) (now (bad .entry)) (now (status .entry)) (now (out .entry)) .status ⌝ }
-    ensures out { λ r. ⌜ now (out .exit) ≡ calls.undo (lent (now (journal .entry)) (now (table .entry))) (now (bad .entry)) (now (status .entry)) (now (out .entry)) .out ⌝ }
+    ensures answer { λ r. ⌜ answerOf r
+        ≡ calls.undo (inputsOf (now (journal .entry)) (now (table .entry))) (now (bad .entry)) (now (status .entry))
+        (now (out .entry)) .answer ⌝ }
+    ensures table { λ r. ⌜ now (table .exit)
+        ≡ calls.undo (inputsOf (now (journal .entry)) (now (table .entry))) (now (bad .entry)) (now (status .entry))
+        (now (out .entry)) .table ⌝ }
+    ensures status { λ r. ⌜ now (status .exit)
+        ≡ calls.undo (inputsOf (now (journal .entry)) (now (table .entry))) (now (bad .entry)) (now (status .entry))
+        (now (out .entry)) .status ⌝ }
+    ensures out { λ r. ⌜ now (out .exit)
+        ≡ calls.undo (inputsOf (now (journal .entry)) (now (table .entry))) (now (bad .entry)) (now (status .entry))
+        (now (out .entry)) .out ⌝ }
 {
-    let mut ends = [0u8; 1025];
+    let mut ends = [0u8; TRANSACTION_SLOTS];
     let head = examine(journal, table, &mut ends);
-    let Headed::Counts(n, keys) = head else {
+    let Headed::Size(n, keys) = head else {
         let Headed::Refused(why) = head else {
             return Undone::Refused(Reason::Truncated);
         };
         return Undone::Refused(why);
     };
-    undo_examined(journal, n as usize, keys, &ends, table, bad, status, out)
+    undo_examined(journal, n, keys, &ends, table, bad, status, out)
 }

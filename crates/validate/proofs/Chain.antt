@@ -16,7 +16,7 @@ use Rattle.lists.proofs.TablesLaws.{length-tabulate, tabulate-ext}
 use Rattle.format.specs.Layout.{recordAt}
 use Rattle.model.specs.History.{Op, txOf, tagIn, laterOf, nextIn}
 use Rattle.journal.specs.Journal.{count, txIn, opOf, history, whole}
-use Rattle.journal.specs.Refusals.{unchained}
+use Rattle.journal.specs.Refusals.{wrongNext}
 use Rattle.journal.proofs.Records.{txOf-opOf, tagOf-opOf}
 use Rattle.rules.proofs.ArraysLaws.{getD-of, tabulate-set, tabulate-zeros}
 use Rattle.validate.specs.Chain.{nextsOf, broken, lowestBroken}
@@ -81,9 +81,9 @@ module _ (b : List ℕ) where
       let s = txIn (recordAt b (suc j)) in
       tabulate-set (nextIn (whole b) (suc j)) (nextIn (whole b) j) 1025 s (suc j) l (next-step j s h ∙ rw (eq-eqb s s refl)) (λ k q. next-step j k h ∙ rw q)
 
-  pub nexts-kept : (j : ℕ) → j < count b → 1025 ≤ txIn (recordAt b (suc j)) → nextsOf b (suc j) ≡ nextsOf b j
+  pub nexts-same : (j : ℕ) → j < count b → 1025 ≤ txIn (recordAt b (suc j)) → nextsOf b (suc j) ≡ nextsOf b j
   unfolding nextsOf
-  nexts-kept j h l =
+  nexts-same j h l =
       tabulate-ext (nextIn (whole b) (suc j)) (nextIn (whole b) j) 0 0 1025
       (λ k m. sym (next-step j (0 + k) h ∙ rw (ne-eqb (0 + k) (txIn (recordAt b (suc j))) (λ e. omega arith))))
 
@@ -115,18 +115,18 @@ module _ (b : List ℕ) where
       (lowest-skip (suc i) m n (λ k a c. h k (omega arith) (omega arith)) ∙ ap (λ k. lowestBroken b k n) f)
 
   -- where no lower record's next is wrong: it is this record, if and only if its next is
-  pub lowest-here : (j n : ℕ) → j < n → ((k : ℕ) → 1 ≤ k → k ≤ j → unchained b k ≡ false) → txIn (recordAt b (suc j)) ≤ 1024
-      → eqb (suc j) (lowestBroken b 1 n) ≡ unchained b (suc j)
+  pub lowest-here : (j n : ℕ) → j < n → ((k : ℕ) → 1 ≤ k → k ≤ j → wrongNext b k ≡ false) → txIn (recordAt b (suc j)) ≤ 1024
+      → eqb (suc j) (lowestBroken b 1 n) ≡ wrongNext b (suc j)
   unfolding broken
   lowest-here j n h f l =
       let e : n ≡ j + suc (n - suc j) = omega arith in
-      let q : broken b (suc j) ≡ unchained b (suc j) = rw (le-leb (txIn (recordAt b (suc j))) 1024 l) in
+      let q : broken b (suc j) ≡ wrongNext b (suc j) = rw (le-leb (txIn (recordAt b (suc j))) 1024 l) in
       let one : 1 + j ≡ suc j = omega arith in
       let skip : lowestBroken b 1 n ≡ lowestBroken b (suc j) (suc (n - suc j)) =
       ap (lowestBroken b 1) e ∙ lowest-skip 1 j (suc (n - suc j)) (λ k a c. rw (f k a (omega arith)) (and-false (leb (txIn (recordAt b k)) 1024)))
       ∙ ap (λ k. lowestBroken b k (suc (n - suc j))) one in
       rw (skip, lowest-suc (suc j) (n - suc j), q)
-      (byCases (unchained b (suc j))
+      (byCases (wrongNext b (suc j))
       (λ u. rw u (eq-eqb (suc j) (suc j) refl))
       (λ u. rw u (lowest-above (suc j) (suc (suc j)) (n - suc j) (omega arith) (omega arith))))
 
@@ -138,7 +138,7 @@ module _ (b : List ℕ) (j s low : ℕ) (h : j < count b) (e : s ≡ txIn (recor
   back-above a = rw (lt-leb (txIn (recordAt b (j + 1))) 1024 (rw e at a))
 
   pub back-above-slots : {l : List ℕ} → 1024 < s → l ≡ nextsOf b (j + 1) → l ≡ nextsOf b j
-  back-above-slots a q = q ∙ (rw add-one (nexts-kept b j h (rw (e, add-one) at a)))
+  back-above-slots a q = q ∙ (rw add-one (nexts-same b j h (rw (e, add-one) at a)))
 
   pub back-slots : {l : List ℕ} → s ≤ 1024 → l ≡ nextsOf b (j + 1) → set l s (j + 1) ≡ nextsOf b j
   back-slots a q =
@@ -151,12 +151,12 @@ module _ (b : List ℕ) (j s low : ℕ) (h : j < count b) (e : s ≡ txIn (recor
     slot = rw (q, nexts-at b (j + 1) s (omega arith), e)
 
     pub back-right : n ≡ getD l s 0 → low ≡ cond (broken b (j + 1)) (j + 1) low
-    unfolding broken unchained
+    unfolding broken wrongNext
     back-right w =
         rw (eq-eqb (recordAt b (j + 1) .next .0) _ (sym m ∙ w ∙ slot), and-false (leb (txIn (recordAt b (j + 1))) 1024))
 
     pub back-wrong : (n ≡ getD l s 0 → ⊥) → j + 1 ≡ cond (broken b (j + 1)) (j + 1) low
-    unfolding broken unchained
+    unfolding broken wrongNext
     back-wrong w =
         rw (ne-eqb (recordAt b (j + 1) .next .0) _ (λ z. w (m ∙ z ∙ sym slot)), le-leb (txIn (recordAt b (j + 1))) 1024 (rw e at a))
 

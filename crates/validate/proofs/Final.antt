@@ -15,12 +15,12 @@ use mir.Syntax.{w32}
 use mir.Val.{toZ, ofZ, SFits}
 use mir.ValLaws.{toZ-ofZ}
 use Rattle.lists.specs.Search.{any, first}
-use Rattle.lists.specs.Tables.{number}
+use Rattle.lists.specs.Tables.{countIf}
 use Rattle.lists.proofs.BoolLaws.{byCases}
 use Rattle.lists.proofs.SearchLaws.{latest-none, any-latest, latest-passes, first-none, first-some}
 use Rattle.lists.proofs.TablesLaws.{number-zero, number-last, number-ext}
 use Rattle.model.specs.History.{Op, Amount, sameAmount, writeTo, ofTx, tagIn, active, standing}
-use Rattle.journal.specs.Inputs.{lent}
+use Rattle.journal.specs.Inputs.{inputsOf}
 use Rattle.journal.specs.Journal.{count, items, history, whole, amountAt}
 use Rattle.journal.specs.Refusals.{unsettled}
 use Rattle.journal.specs.Orders.{tryEach, settledOrder, decide}
@@ -61,26 +61,27 @@ module _ (b : List ℕ) (n x j : ℕ) (l : List ℕ) (t : List Amount) (k : Read
 
 -- the loop over the items: p tests item x
 module _ (b : List ℕ) (t : List Amount) where
-  pub settle-start : (m : ℕ) → m ≡ items b → decide (settledOrder (lent b t)) ≡ decide (tryEach 10 (unsettled b t) 0 (m - 0))
+  pub settle-start : (m : ℕ) → m ≡ items b → decide (settledOrder (inputsOf b t)) ≡ decide (tryEach 10 (unsettled b t) 0 (m - 0))
   unfolding settledOrder
   settle-start m e = let f : m - 0 ≡ items b = omega arith in rw f
 
-  module _ (x m : ℕ) (l : decide (settledOrder (lent b t)) ≡ decide (tryEach 10 (unsettled b t) x (m - x))) (h : x < m) (p : Bool) (q : p ≡ not (unsettled b t x)) where
-    pub settle-more : p ≡ true → decide (settledOrder (lent b t)) ≡ decide (tryEach 10 (unsettled b t) (x + 1) (m - (x + 1)))
-    settle-more e = tried-passed 10 (unsettled b t) x m (decide (settledOrder (lent b t))) l h (not-true _ (sym q ∙ e))
+  module _ (x m : ℕ) (l : decide (settledOrder (inputsOf b t)) ≡ decide (tryEach 10 (unsettled b t) x (m - x))) (h : x < m) (p : Bool) (q : p ≡ not (unsettled b t x)) where
+    pub settle-more : p ≡ true → decide (settledOrder (inputsOf b t)) ≡ decide (tryEach 10 (unsettled b t) (x + 1) (m - (x + 1)))
+    settle-more e = tried-passed 10 (unsettled b t) x m (decide (settledOrder (inputsOf b t))) l h (not-true _ (sym q ∙ e))
 
-    pub settle-refused : p ≡ false → some (record { number = 10; place = x }) ≡ decide (settledOrder (lent b t))
-    settle-refused e = tried-refused 10 (unsettled b t) x m (decide (settledOrder (lent b t))) l h (not-false _ (sym q ∙ e))
+    pub settle-refused : p ≡ false → some (record { number = 10; place = x }) ≡ decide (settledOrder (inputsOf b t))
+    settle-refused e = tried-refused 10 (unsettled b t) x m (decide (settledOrder (inputsOf b t))) l h (not-false _ (sym q ∙ e))
 
 -- ---- active transactions
 
-pub active-in : (ends firsts : List ℕ) (s : ℕ) → (getD firsts s 0 ≡ 0 → ⊥) → eqb (getD ends s 0) 0 ≡ activeIn ends firsts s
-unfolding activeIn
-active-in ends firsts s h = rw (ne-eqb (getD firsts s 0) 0 h)
+module _ (ends firsts : List ℕ) (s first : ℕ) (q : first ≡ getD firsts s 0) where
+  pub active-in : (end : ℕ) → end ≡ getD ends s 0 → (first ≡ 0 → ⊥) → eqb end 0 ≡ activeIn ends firsts s
+  unfolding activeIn
+  active-in end e h = rw (← q, ← e, ne-eqb first 0 h)
 
-pub active-none : (ends firsts : List ℕ) (s : ℕ) → getD firsts s 0 ≡ 0 → false ≡ activeIn ends firsts s
-unfolding activeIn
-active-none ends firsts s h = rw h
+  pub active-none : first ≡ 0 → false ≡ activeIn ends firsts s
+  unfolding activeIn
+  active-none h = rw (← q, h)
 
 first-any : (f : Op → Bool) (b : List ℕ) (n : ℕ) → any f (history b n) ≡ not (eqb (tagIn (first f (history b n))) 0)
 first-any f b n =
@@ -99,27 +100,27 @@ active-at b n ends firsts e f s h =
     rw (e, f, ends-at (history b n) s h, firsts-at (history b n) s h)
     (ap (λ a. a && eqb (endCode (history b n) s) 0) (sym (first-any (ofTx s) b n)) ∙ ap (λ a. any (ofTx s) (history b n) && a) (sym (active-code (history b n) s)))
 
-pub active-number : (b : List ℕ) (n m : ℕ) (ends firsts : List ℕ) → n ≡ count b → ends ≡ endsOf (history b n) → firsts ≡ firstsOf (history b n) → m ≡ number (activeIn ends firsts) 1 1024
-    → m ≡ number (active (whole b)) 1 1024
+pub active-number : (b : List ℕ) (n m : ℕ) (ends firsts : List ℕ) → n ≡ count b → ends ≡ endsOf (history b n) → firsts ≡ firstsOf (history b n) → m ≡ countIf (activeIn ends firsts) 1 1024
+    → m ≡ countIf (active (whole b)) 1 1024
 unfolding whole
 active-number b n m ends firsts c e f q =
     q ∙ rw (← c) (number-ext (activeIn ends firsts) (active (history b n)) 1 1 1024 (λ k h. active-at b n ends firsts e f (1 + k) (omega arith)))
 
-module _ (f : ℕ → Bool) (s k : ℕ) (h : 1 ≤ s) (q : k ≡ number f 1 (s - 1)) where
-  one-more : number f 1 (s + 1 - 1) ≡ cond (f s) (suc k) k
+module _ (f : ℕ → Bool) (s k : ℕ) (h : 1 ≤ s) (q : k ≡ countIf f 1 (s - 1)) where
+  one-more : countIf f 1 (s + 1 - 1) ≡ cond (f s) (suc k) k
   one-more =
       let e : s + 1 - 1 ≡ suc (s - 1) = omega arith in
       let g : 1 + (s - 1) ≡ s = omega arith in
       rw (e, number-last f 1 (s - 1), g, q)
 
-  pub count-yes : (a : Bool) → a ≡ f s → a ≡ true → k + 1 ≡ number f 1 (s + 1 - 1)
+  pub count-yes : (a : Bool) → a ≡ f s → a ≡ true → k + 1 ≡ countIf f 1 (s + 1 - 1)
   count-yes a e t = sym (one-more ∙ rw (← e, t, add-one))
 
-  pub count-no : (a : Bool) → a ≡ f s → a ≡ false → k ≡ number f 1 (s + 1 - 1)
+  pub count-no : (a : Bool) → a ≡ f s → a ≡ false → k ≡ countIf f 1 (s + 1 - 1)
   count-no a e t = sym (one-more ∙ rw (← e, t))
 
-pub count-start : (f : ℕ → Bool) → 0 ≡ number f 1 (1 - 1)
+pub count-start : (f : ℕ → Bool) → 0 ≡ countIf f 1 (1 - 1)
 count-start f = sym (number-zero f 1)
 
-pub count-done : (f : ℕ → Bool) (s k : ℕ) → s ≤ 1025 → 1025 ≤ s → k ≡ number f 1 (s - 1) → k ≡ number f 1 1024
+pub count-done : (f : ℕ → Bool) (s k : ℕ) → s ≤ 1025 → 1025 ≤ s → k ≡ countIf f 1 (s - 1) → k ≡ countIf f 1 1024
 count-done f s k h l q = let e : s - 1 ≡ 1024 = omega arith in rw e at q

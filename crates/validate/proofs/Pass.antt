@@ -23,7 +23,7 @@ use Rattle.fields.specs.Answers.{Opened}
 use Rattle.rules.specs.declared.Verdict.{Verdict}
 use Rattle.rules.specs.declared.Verdict.the-variants.{Passed, Refused}
 use Rattle.rules.specs.Answers.{refusalOf, verdictOf}
-use Rattle.rules.specs.Arrays.{Ready, SightedTo, Linked, State}
+use Rattle.rules.specs.Arrays.{Ready, NoBlindTo, Linked, State}
 use Rattle.rules.proofs.Found.{core-right}
 use Rattle.rules.proofs.ArraysLaws.{ends-start, firsts-start, writes-start, bases-start, reads-start, length-ends, length-firsts, length-writes, length-bases, length-reads}
 
@@ -35,7 +35,7 @@ linked-start b = record { size = length-replicate {A = ℕ} 3201 0; link = λ k 
 pub state-start : (b : List ℕ) → State b 0 (replicate 1025 0) (replicate 1025 0) (replicate 1024 0) (replicate 1024 0) (replicate 1024 0) (replicate 3201 0)
 unfolding history
 state-start b =
-    record { ended = ends-start; begun = firsts-start; written = writes-start; based = bases-start; sighted = reads-start; linked = linked-start b }
+    record { ended = ends-start; begun = firsts-start; written = writes-start; based = bases-start; lastRead = reads-start; linked = linked-start b }
 
 pub none-passed : (b : List ℕ) → decide (each (recordOrder b) 1 0) ≡ none
 unfolding decide
@@ -57,8 +57,8 @@ module _ (b : List ℕ) (n m i : ℕ) (o : Opened b n m) (p : decide (each (reco
   pub ready-at : i ≤ n → Ready b i
   ready-at h = record { long = omega (arith, o .long); few = omega (arith, o .few); items = omega (arith, o .keys, o .narrow); passed = λ k l. core-right (right-at k l) }
 
-  pub sighted-at : SightedTo b i
-  sighted-at = record { read = λ k l. right-at k l .follows .sighted }
+  pub noBlind-at : NoBlindTo b i
+  noBlind-at = record { read = λ k l. right-at k l .follows .notBlind }
 
 -- the records left, by the number behind the last
 records-left : (b : List ℕ) (n i : ℕ) → decide (recordsOrder b) ≡ decide (each (recordOrder b) (i + 1) (n - i))
@@ -114,7 +114,7 @@ same-lengths {b = b} {i = i} s t =
       firsts = rw (s .begun, t .begun, length-firsts (history b i), length-firsts (history b 0));
       writes = rw (s .written, t .written, length-writes (history b i), length-writes (history b 0));
       bases = rw (s .based, t .based, length-bases (history b i), length-bases (history b 0));
-      reads = rw (s .sighted, t .sighted, length-reads (history b i), length-reads (history b 0));
+      reads = rw (s .lastRead, t .lastRead, length-reads (history b i), length-reads (history b 0));
       links = t .linked .size ∙ sym (s .linked .size);
     }
 

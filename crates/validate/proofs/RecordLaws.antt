@@ -13,7 +13,7 @@ use Rattle.lists.specs.Search.{orElse}
 use Rattle.format.specs.declared.Record.{Record}
 use Rattle.format.specs.Layout.{recordAt}
 use Rattle.journal.specs.Journal.{items, opOf, history}
-use Rattle.journal.specs.Refusals.{malformed, unchained}
+use Rattle.journal.specs.Refusals.{malformed, wrongNext}
 use Rattle.journal.specs.Orders.{Refusal, ruleOrder, recordOrder, decide}
 use Rattle.journal.proofs.OrdersLaws.{orElse-none, decide-try, decide-turn, decide-over}
 use Rattle.fields.proofs.Fields.{formed-range}
@@ -24,7 +24,7 @@ use Rattle.validate.specs.Chain.{lowestBroken}
 use Rattle.validate.proofs.Chain.{lowest-here}
 
 record-parts : (b : List ℕ) (n : ℕ)
-    → decide (recordOrder b (n + 1)) ≡ orElse (cond (malformed (items b) (recordAt b (n + 1))) (at 4 (n + 1)) none) (orElse (cond (unchained b (n + 1)) (at 5 (n + 1)) none) (decide (ruleOrder (history b n) (n + 1) (opOf (n + 1) (recordAt b (n + 1))))))
+    → decide (recordOrder b (n + 1)) ≡ orElse (cond (malformed (items b) (recordAt b (n + 1))) (at 4 (n + 1)) none) (orElse (cond (wrongNext b (n + 1)) (at 5 (n + 1)) none) (decide (ruleOrder (history b n) (n + 1) (opOf (n + 1) (recordAt b (n + 1))))))
 unfolding recordOrder
 record-parts b n = rw add-one (simp (decide-turn, decide-over, decide-try, orElse-none))
 
@@ -38,13 +38,13 @@ module _ (b : List ℕ) (n m : ℕ) (r : Record) (h : Bool) (k : Ready b n) (e :
     record-formed = not-true _ (rw (← j) (sym g ∙ z))
 
     module _ (low c : ℕ) (a : low ≡ lowestBroken b 1 c) (i : n < c) where
-      chain-is : eqb (n + 1) low ≡ unchained b (n + 1)
+      chain-is : eqb (n + 1) low ≡ wrongNext b (n + 1)
       chain-is =
           let u = formed-range (items b) r record-formed in
           rw (a, add-one)
           (lowest-here b n c i before (rw (← (rw add-one at e)) (u .1)))
         where
-          before : (l : ℕ) → 1 ≤ l → l ≤ n → unchained b l ≡ false
+          before : (l : ℕ) → 1 ≤ l → l ≤ n → wrongNext b l ≡ false
           before zero p q = absurd (omega arith)
           before (suc l) p q = passed-right b n (k .passed) l (omega arith) .chained
 

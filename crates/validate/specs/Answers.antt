@@ -1,4 +1,5 @@
--- What the answer of check says, the active transactions from the working arrays, and the order after the head and the table's length.
+-- What the answer of check says, the active transactions from the working arrays, and the order after the head and the table's
+-- length.
 -- Assumes nothing.
 use mathlib.Core.Bool.{Bool, not, _&&_}
 use mathlib.Core.List.{List, [], _∷_}

@@ -4,16 +4,17 @@ ghost use mathlib.Core.Bool.{cond, not};
 ghost use mathlib.Core.Option.{none};
 ghost use Prim.Native.Nat.{_+_, _*_, _≤_, _<_};
 ghost use lib.ListN.{length};
-ghost use Rattle.lists.specs.Tables.{number};
+ghost use Rattle.lists.specs.Tables.{countIf};
 ghost use Rattle.format.specs.Layout.{recordAt};
-ghost use Rattle.journal.specs.Inputs.{lent};
+ghost use Rattle.format.specs.Limits.{journalBytes, maxRecords, maxItems, maxTransaction, transactionSlots};
+ghost use Rattle.journal.specs.Inputs.{inputsOf};
 ghost use Rattle.journal.specs.Journal.{count, items};
 ghost use Rattle.journal.specs.Refusals.{unsettled};
 ghost use Rattle.journal.specs.Orders.{decide, recordOrder, recordsOrder, settledOrder, checkOrder};
 ghost use Rattle.journal.specs.Calls as calls;
 ghost use Rattle.journal.specs.Calls.{answered};
 ghost use Rattle.fields.specs.Answers.{Opened, headerOf, sizeOf};
-ghost use Rattle.rules.specs.Arrays.{Ready, SightedTo, Ended, Written, Based, Sighted, Linked, State};
+ghost use Rattle.rules.specs.Arrays.{Ready, NoBlindTo, IsEnds, IsWrites, IsBases, IsReads, Linked, State};
 ghost use Rattle.rules.specs.Answers.{verdictOf};
 ghost use Rattle.validate.specs.Chain.{nextsOf, broken, lowestBroken};
 ghost use Rattle.validate.specs.Answers.{answerOf, laterOrder, activeIn};
@@ -21,16 +22,24 @@ use fields::Headed;
 use fields::formed;
 use fields::header;
 use fields::same;
+use format::ITEM_SLOTS;
 use format::Key;
 use format::Lsn;
+use format::MAX_TRANSACTION;
+use format::RECORD_SLOTS;
 use format::Record;
+use format::TRANSACTION_SLOTS;
+use format::TRANSACTIONS_END;
+use format::TransactionId;
 use format::next_at;
 use format::record_at;
 use format::transaction_at;
 use journal::Reason;
-use lists::at;
 use rules::Verdict;
+use rules::end_at;
+use rules::first_at;
 use rules::judge;
+use rules::lsn_at;
 use rules::note;
 use rules::standing_at;
 
@@ -40,30 +49,33 @@ pub enum Checked {
     Refused(Reason),
 }
 
-// The lowest record from j + 1 on whose next is wrong, where `low` is that from j + 2 on; `slots` has the lowest later record of each
-// transaction.
-fn step_back(journal: &[u8], j: usize, low: usize, slots: &mut [u32]) -> usize
-    requires { ⌜ (j < count (now journal)) × (20 * j + 40 ≤ length (now journal)) × (j < 3200) × (now slots ≡ nextsOf (now journal) (j + 1)) ⌝ }
-    ensures { λ r. ⌜ (r ≡ cond (broken (now (journal .entry)) (j + 1)) (j + 1) low) × (now (slots .exit) ≡ nextsOf (now (journal .entry)) j) ⌝ }
+// The lowest record from j + 1 on whose next is wrong, where `low` is that from j + 2 on; `slots` has the lowest later record of
+// each transaction.
+fn step_back(journal: &[u8], j: u32, low: Lsn, slots: &mut [u32]) -> Lsn
+    requires { ⌜ (j < count (now journal)) × (journalBytes (j + 1) ≤ length (now journal)) × (j < maxRecords)
+        × (now slots ≡ nextsOf (now journal) (j + 1)) ⌝ }
+    ensures { λ r. ⌜ (r .0 ≡ cond (broken (now (journal .entry)) (j + 1)) (j + 1) (low .0))
+        × (now (slots .exit) ≡ nextsOf (now (journal .entry)) j) ⌝ }
 {
-    let i = j + 1;
-    let s = transaction_at(journal, i) as usize;
+    let i = Lsn(j + 1);
+    let s = transaction_at(journal, i);
     let next = next_at(journal, i);
-    if 1024 < s {
+    if MAX_TRANSACTION < s.0 {
         return low;
     }
-    let later = slots[s];
-    slots[s] = i as u32;
-    if next == later { low } else { i }
+    let at = s.0 as usize;
+    let later = slots[at];
+    slots[at] = i.0;
+    if next.0 == later { low } else { i }
 }
 
 // The lowest record whose next is wrong, 0 if there is none; records of transactions above 1,024 are passed over.
-fn broken_link(journal: &[u8], n: usize) -> usize
-    requires { ⌜ (n ≡ count (now journal)) × (20 * n + 20 ≤ length (now journal)) × (n ≤ 3200) ⌝ }
-    ensures { λ r. ⌜ r ≡ lowestBroken (now (journal .entry)) 1 n ⌝ }
+fn broken_link(journal: &[u8], n: u32) -> Lsn
+    requires { ⌜ (n ≡ count (now journal)) × (journalBytes n ≤ length (now journal)) × (n ≤ maxRecords) ⌝ }
+    ensures { λ r. ⌜ r .0 ≡ lowestBroken (now (journal .entry)) 1 n ⌝ }
 {
-    let mut slots = [0u32; 1025];
-    let mut low = 0;
+    let mut slots = [0u32; TRANSACTION_SLOTS];
+    let mut low = Lsn(0);
     let mut i = n;
     while i != 0 {
         i -= 1;
@@ -76,8 +88,8 @@ fn broken_link(journal: &[u8], n: usize) -> usize
 fn check_record(
     journal: &[u8],
     keys: u32,
-    low: usize,
-    n: usize,
+    low: Lsn,
+    n: u32,
     ends: &[u8],
     writes: &[u32],
     bases: &[u32],
@@ -85,28 +97,32 @@ fn check_record(
     links: &[u32],
     r: Record,
 ) -> Verdict
-    requires { ⌜ Ready (now journal) n × Ended (now journal) n (now ends) × Written (now journal) n (now writes) × Based (now journal) n (now bases) × Sighted (now journal) n (now reads) × Linked (now journal) n (now links) × (keys ≡ items (now journal)) × (low ≡ lowestBroken (now journal) 1 (count (now journal))) × (n < count (now journal)) × (r ≡ recordAt (now journal) (n + 1)) × SightedTo (now journal) n ⌝ }
+    requires { ⌜ Ready (now journal) n × IsEnds (now journal) n (now ends) × IsWrites (now journal) n (now writes)
+        × IsBases (now journal) n (now bases) × IsReads (now journal) n (now reads) × Linked (now journal) n (now links)
+        × (keys ≡ items (now journal)) × (low .0 ≡ lowestBroken (now journal) 1 (count (now journal))) × (n < count (now journal))
+        × (r ≡ recordAt (now journal) (n + 1)) × NoBlindTo (now journal) n ⌝ }
     ensures { λ v. ⌜ verdictOf v ≡ decide (recordOrder (now (journal .entry)) (n + 1)) ⌝ }
 {
-    let i = n + 1;
+    let i = Lsn(n + 1);
     if formed(keys, r) {
-        if low == i {
-            Verdict::Refused(Reason::Chain(Lsn(i as u32)))
+        if low.0 == i.0 {
+            Verdict::Refused(Reason::Chain(i))
         } else {
             judge(journal, n, ends, writes, bases, reads, links, r)
         }
     } else {
-        Verdict::Refused(Reason::Malformed(Lsn(i as u32)))
+        Verdict::Refused(Reason::Malformed(i))
     }
 }
 
-// Records 1 to n by rules 4 to 9, in a journal whose head is right: the lowest record that breaks one is refused, by its lowest number.
-// The working arrays are lent as zeros. Where nothing is refused they hold, per transaction, its end and its first record; per item, its
-// last write, the first write by the same transaction and the newest read since; per read, the read before it (specs/Arrays.antt of
-// `rules`).
+// Records 1 to n by rules 4 to 9, in a journal whose head is right: the lowest record that breaks one is refused, by its lowest
+// number.
+// The working arrays are lent as zeros. Where nothing is refused they hold, per transaction, its end and its first record; per
+// item, its last write, the first write by the same transaction and the newest read since; per read, the read before it
+// (specs/Arrays.antt of `rules`).
 pub fn records(
     journal: &[u8],
-    n: usize,
+    n: u32,
     keys: u32,
     ends: &mut [u8],
     firsts: &mut [u32],
@@ -115,13 +131,17 @@ pub fn records(
     reads: &mut [u32],
     links: &mut [u32],
 ) -> Verdict
-    requires { ⌜ Opened (now journal) n keys × State (now journal) 0 (now ends) (now firsts) (now writes) (now bases) (now reads) (now links) ⌝ }
-    ensures { λ v. ⌜ (verdictOf v ≡ decide (recordsOrder (now (journal .entry)))) × (verdictOf v ≡ none → State (now (journal .entry)) n (now (ends .exit)) (now (firsts .exit)) (now (writes .exit)) (now (bases .exit)) (now (reads .exit)) (now (links .exit))) ⌝ }
+    requires { ⌜ Opened (now journal) n keys
+        × State (now journal) 0 (now ends) (now firsts) (now writes) (now bases) (now reads) (now links) ⌝ }
+    ensures { λ v. ⌜ (verdictOf v ≡ decide (recordsOrder (now (journal .entry))))
+        × (verdictOf v ≡ none
+        → State (now (journal .entry)) n (now (ends .exit)) (now (firsts .exit)) (now (writes .exit)) (now (bases .exit))
+        (now (reads .exit)) (now (links .exit))) ⌝ }
 {
     let low = broken_link(journal, n);
     let mut i = 0;
     while i < n {
-        let r = record_at(journal, i + 1);
+        let r = record_at(journal, Lsn(i + 1));
         let v = check_record(journal, keys, low, i, ends, writes, bases, reads, links, r);
         let Verdict::Passed = v else {
             return v;
@@ -135,64 +155,75 @@ pub fn records(
 // Rule 10 at item x: it is unwritten, or its standing amount is the table's.
 fn settled(
     journal: &[u8],
-    n: usize,
+    n: u32,
     table: &[i32],
     ends: &[u8],
     writes: &[u32],
     bases: &[u32],
-    x: usize,
+    x: Key,
 ) -> bool
-    requires { ⌜ Ready (now journal) n × (n ≡ count (now journal)) × Ended (now journal) n (now ends) × Written (now journal) n (now writes) × Based (now journal) n (now bases) × (x < 1024) × (x < length (now table)) ⌝ }
-    ensures { λ h. ⌜ h ≡ not (unsettled (now (journal .entry)) (now (table .entry)) x) ⌝ }
+    requires { ⌜ Ready (now journal) n × (n ≡ count (now journal)) × IsEnds (now journal) n (now ends)
+        × IsWrites (now journal) n (now writes) × IsBases (now journal) n (now bases) × (x .0 < maxItems)
+        × (x .0 < length (now table)) ⌝ }
+    ensures { λ h. ⌜ h ≡ not (unsettled (now (journal .entry)) (now (table .entry)) (x .0)) ⌝ }
 {
-    let w = at(writes, x);
-    if w == 0 {
+    let w = lsn_at(writes, x);
+    if w.0 == 0 {
         return true;
     }
     let amount = standing_at(journal, n, ends, writes, bases, x);
-    same(amount, table[x])
+    let at = x.0 as usize;
+    same(amount, table[at])
 }
 
 // Rule 10, lowest item first, in a journal whose n records passed.
 pub fn final_state(
     journal: &[u8],
-    n: usize,
+    n: u32,
     table: &[i32],
     ends: &[u8],
     writes: &[u32],
     bases: &[u32],
 ) -> Verdict
-    requires { ⌜ Ready (now journal) n × (n ≡ count (now journal)) × Ended (now journal) n (now ends) × Written (now journal) n (now writes) × Based (now journal) n (now bases) × (length (now table) ≡ items (now journal)) ⌝ }
-    ensures { λ v. ⌜ verdictOf v ≡ decide (settledOrder (lent (now (journal .entry)) (now (table .entry)))) ⌝ }
+    requires { ⌜ Ready (now journal) n × (n ≡ count (now journal)) × IsEnds (now journal) n (now ends)
+        × IsWrites (now journal) n (now writes) × IsBases (now journal) n (now bases)
+        × (length (now table) ≡ items (now journal)) ⌝ }
+    ensures { λ v. ⌜ verdictOf v ≡ decide (settledOrder (inputsOf (now (journal .entry)) (now (table .entry)))) ⌝ }
 {
-    let mut x = 0;
-    while x < table.len() {
-        if settled(journal, n, table, ends, writes, bases, x) {
+    let keys = table.len() as u32;
+    let mut x: u32 = 0;
+    while x < keys {
+        if settled(journal, n, table, ends, writes, bases, Key(x)) {
             x += 1;
         } else {
-            return Verdict::Refused(Reason::FinalState(Key(x as u32)));
+            return Verdict::Refused(Reason::FinalState(Key(x)));
         }
     }
     Verdict::Passed
 }
 
 // Transaction s has a record and no end.
-pub fn is_active(ends: &[u8], firsts: &[u32], s: usize) -> bool
-    requires { ⌜ (s < length (now ends)) × (s < length (now firsts)) ⌝ }
-    ensures { λ r. ⌜ r ≡ activeIn (now (ends .entry)) (now (firsts .entry)) s ⌝ }
+pub fn is_active(ends: &[u8], firsts: &[u32], s: TransactionId) -> bool
+    requires { ⌜ (s .0 < length (now ends)) × (s .0 < length (now firsts)) ⌝ }
+    ensures { λ r. ⌜ r ≡ activeIn (now (ends .entry)) (now (firsts .entry)) (s .0) ⌝ }
 {
-    if firsts[s] == 0 { false } else { ends[s] == 0 }
+    let first = first_at(firsts, s);
+    if first.0 == 0 {
+        false
+    } else {
+        end_at(ends, s) == 0
+    }
 }
 
 // How many transactions are active.
 fn active_count(ends: &[u8], firsts: &[u32]) -> u32
-    requires { ⌜ (length (now ends) ≡ 1025) × (length (now firsts) ≡ 1025) ⌝ }
-    ensures { λ r. ⌜ r ≡ number (activeIn (now (ends .entry)) (now (firsts .entry))) 1 1024 ⌝ }
+    requires { ⌜ (length (now ends) ≡ transactionSlots) × (length (now firsts) ≡ transactionSlots) ⌝ }
+    ensures { λ r. ⌜ r ≡ countIf (activeIn (now (ends .entry)) (now (firsts .entry))) 1 maxTransaction ⌝ }
 {
     let mut count: u32 = 0;
-    let mut s = 1;
-    while s < 1025 {
-        if is_active(ends, firsts, s) {
+    let mut s: u16 = 1;
+    while s < TRANSACTIONS_END {
+        if is_active(ends, firsts, TransactionId(s)) {
             count += 1;
         }
         s += 1;
@@ -203,7 +234,7 @@ fn active_count(ends: &[u8], firsts: &[u32]) -> u32
 // Rules 4 to 10 of a journal whose head and table length are right.
 fn verify_records(
     journal: &[u8],
-    n: usize,
+    n: u32,
     keys: u32,
     table: &[i32],
     ends: &mut [u8],
@@ -213,8 +244,12 @@ fn verify_records(
     reads: &mut [u32],
     links: &mut [u32],
 ) -> Verdict
-    requires { ⌜ Opened (now journal) n keys × (length (now table) ≡ keys) × State (now journal) 0 (now ends) (now firsts) (now writes) (now bases) (now reads) (now links) ⌝ }
-    ensures { λ v. ⌜ (verdictOf v ≡ decide (laterOrder (lent (now (journal .entry)) (now (table .entry))))) × (verdictOf v ≡ none → State (now (journal .entry)) n (now (ends .exit)) (now (firsts .exit)) (now (writes .exit)) (now (bases .exit)) (now (reads .exit)) (now (links .exit))) ⌝ }
+    requires { ⌜ Opened (now journal) n keys × (length (now table) ≡ keys)
+        × State (now journal) 0 (now ends) (now firsts) (now writes) (now bases) (now reads) (now links) ⌝ }
+    ensures { λ v. ⌜ (verdictOf v ≡ decide (laterOrder (inputsOf (now (journal .entry)) (now (table .entry)))))
+        × (verdictOf v ≡ none
+        → State (now (journal .entry)) n (now (ends .exit)) (now (firsts .exit)) (now (writes .exit)) (now (bases .exit))
+        (now (reads .exit)) (now (links .exit))) ⌝ }
 {
     let passed = records(journal, n, keys, ends, firsts, writes, bases, reads, links);
     let Verdict::Passed = passed else {
@@ -235,16 +270,20 @@ pub fn verify(
     links: &mut [u32],
 ) -> Headed
     requires { ⌜ State (now journal) 0 (now ends) (now firsts) (now writes) (now bases) (now reads) (now links) ⌝ }
-    ensures { λ r. ⌜ (headerOf r ≡ answered (decide (checkOrder (lent (now (journal .entry)) (now (table .entry))))) (sizeOf (now (journal .entry)))) × (decide (checkOrder (lent (now (journal .entry)) (now (table .entry)))) ≡ none → State (now (journal .entry)) (count (now (journal .entry))) (now (ends .exit)) (now (firsts .exit)) (now (writes .exit)) (now (bases .exit)) (now (reads .exit)) (now (links .exit))) ⌝ }
+    ensures { λ r. ⌜ (headerOf r
+        ≡ answered (decide (checkOrder (inputsOf (now (journal .entry)) (now (table .entry))))) (sizeOf (now (journal .entry))))
+        × (decide (checkOrder (inputsOf (now (journal .entry)) (now (table .entry)))) ≡ none
+        → State (now (journal .entry)) (count (now (journal .entry))) (now (ends .exit)) (now (firsts .exit)) (now (writes .exit))
+        (now (bases .exit)) (now (reads .exit)) (now (links .exit))) ⌝ }
 {
     let head = header(journal);
-    let Headed::Counts(n, keys) = head else {
+    let Headed::Size(n, keys) = head else {
         return head;
     };
     if table.len() == keys as usize {
         let passed = verify_records(
             journal,
-            n as usize,
+            n,
             keys,
             table,
             ends,
@@ -256,7 +295,7 @@ pub fn verify(
         );
         let Verdict::Passed = passed else {
             let Verdict::Refused(why) = passed else {
-                return head;
+                return Headed::Refused(Reason::Truncated);
             };
             return Headed::Refused(why);
         };
@@ -268,14 +307,14 @@ pub fn verify(
 
 // How many transactions are active, or the first refusal of 1 to 10 in document 01's order.
 pub fn check(journal: &[u8], table: &[i32]) -> Checked
-    ensures { λ r. ⌜ answerOf r ≡ calls.check (lent (now (journal .entry)) (now (table .entry))) ⌝ }
+    ensures { λ r. ⌜ answerOf r ≡ calls.check (inputsOf (now (journal .entry)) (now (table .entry))) ⌝ }
 {
-    let mut ends = [0u8; 1025];
-    let mut firsts = [0u32; 1025];
-    let mut writes = [0u32; 1024];
-    let mut bases = [0u32; 1024];
-    let mut reads = [0u32; 1024];
-    let mut links = [0u32; 3201];
+    let mut ends = [0u8; TRANSACTION_SLOTS];
+    let mut firsts = [0u32; TRANSACTION_SLOTS];
+    let mut writes = [0u32; ITEM_SLOTS];
+    let mut bases = [0u32; ITEM_SLOTS];
+    let mut reads = [0u32; ITEM_SLOTS];
+    let mut links = [0u32; RECORD_SLOTS];
     let passed = verify(
         journal,
         table,
@@ -286,9 +325,9 @@ pub fn check(journal: &[u8], table: &[i32]) -> Checked
         &mut reads,
         &mut links,
     );
-    let Headed::Counts(n, keys) = passed else {
+    let Headed::Size(n, keys) = passed else {
         let Headed::Refused(why) = passed else {
-            return Checked::Active(0);
+            return Checked::Refused(Reason::Truncated);
         };
         return Checked::Refused(why);
     };

@@ -13,7 +13,7 @@ use Rattle.lists.proofs.BoolLaws.{and-left, and-right, or-cases}
 use Rattle.format.specs.Bytes.{Bytes, none, byte}
 use Rattle.model.specs.History.{History, Amount, txOf, ofTx, ended}
 use Rattle.journal.specs.Calls.{openingTable}
-use Rattle.example.specs.Records.{headOf, readBy, writeBy, commitBy, abortBy}
+use Rattle.example.specs.Records.{headBytes, readBytes, writeBytes, commitBytes, abortBytes}
 unfoldable pub use Rattle.example.specs.Example.{example, exampleTable}
 use Rattle.days.proofs.Computed as calls
 
@@ -53,19 +53,19 @@ low n = n ∷ 0 ∷ 0 ∷ 0 ∷ []
 
 unfoldable pub second : List ℕ
 second =
-    flatten (headOf 12 2
-    ∷ readBy 1 2 0
-    ∷ commitBy 1 0
-    ∷ readBy 4 4 1
-    ∷ writeBy 4 5 1 (low 5) (low 9)
-    ∷ abortBy 4 0
-    ∷ readBy 2 7 1
-    ∷ writeBy 2 8 1 (low 5) (low 6)
-    ∷ commitBy 2 0
-    ∷ readBy 3 10 1
-    ∷ commitBy 3 0
-    ∷ readBy 5 12 0
-    ∷ commitBy 5 0
+    flatten (headBytes 12 2
+    ∷ readBytes 1 2 0
+    ∷ commitBytes 1 0
+    ∷ readBytes 4 4 1
+    ∷ writeBytes 4 5 1 (low 5) (low 9)
+    ∷ abortBytes 4 0
+    ∷ readBytes 2 7 1
+    ∷ writeBytes 2 8 1 (low 5) (low 6)
+    ∷ commitBytes 2 0
+    ∷ readBytes 3 10 1
+    ∷ commitBytes 3 0
+    ∷ readBytes 5 12 0
+    ∷ commitBytes 5 0
     ∷ [])
 
 unfoldable pub secondTable : List Amount

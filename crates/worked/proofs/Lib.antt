@@ -1,4 +1,4 @@
 pub mod Examples
-pub mod PostingDay
+pub mod AppendingDay
 pub mod WorkedDays
 pub mod Reports

@@ -4,13 +4,13 @@ use mathlib.Core.Path.{refl}
 use mathlib.Core.List.{flatten}
 use Rattle.format.specs.Bytes.{entry, entries}
 use Rattle.text.specs.Decimal.{digits, decimal, decimalZ}
-use Rattle.report.specs.Output.{undoneIn, changeIn, copied, lines, linesOf, amounts, transactions, taken, reportOf}
-use Rattle.worked.specs.Reports.{Example, CutOff, Refusals, Wide, Decimals}
+use Rattle.report.specs.Output.{undoneIn, changeIn, lines, linesOf, amounts, transactions, undoFiles, reportOf}
+use Rattle.worked.specs.Reports.{Example, PartialEntry, Refusals, Wide, Decimals}
 use Rattle.days.proofs.Computed as calls
 
 -- what a report computes with: `unfolding computed` opens what its own line names
 unfoldable computed : Unit {0}
-unfolding calls.computed entry entries digits decimal decimalZ flatten undoneIn changeIn copied lines linesOf amounts transactions taken reportOf
+unfolding calls.computed entry entries digits decimal decimalZ flatten undoneIn changeIn lines linesOf amounts transactions undoFiles reportOf
 computed = tt
 
 pub decimals : Decimals
@@ -21,13 +21,13 @@ pub refusals : Refusals
 unfolding computed
 refusals = record { noJournal = refl; noTable = refl; unknown = refl; unsettled = refl }
 
-pub example : Example
+pub example-report : Example
 unfolding computed
-example = refl
+example-report = refl
 
-pub cut-off : CutOff
+pub partial-entry : PartialEntry
 unfolding computed
-cut-off = refl
+partial-entry = refl
 
 pub wide : Wide
 unfolding computed

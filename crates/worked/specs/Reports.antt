@@ -44,8 +44,8 @@ abbrev pub Example : Type 0
 Example = reportOf example table bad ≡ flatten (line1 ∷ line2 ∷ line3 ∷ line4 ∷ line5 ∷ [])
 
 -- a part of an entry behind the table and behind the list is left out
-abbrev pub CutOff : Type 0
-CutOff = reportOf example (table ++ 7 ∷ 0 ∷ 9 ∷ []) (bad ++ 3 ∷ []) ≡ flatten (line1 ∷ line2 ∷ line3 ∷ line4 ∷ line5 ∷ [])
+abbrev pub PartialEntry : Type 0
+PartialEntry = reportOf example (table ++ 7 ∷ 0 ∷ 9 ∷ []) (bad ++ 3 ∷ []) ≡ flatten (line1 ∷ line2 ∷ line3 ∷ line4 ∷ line5 ∷ [])
 
 -- ---- refusals
 
@@ -80,7 +80,9 @@ wide1 = 74 ∷ 79 ∷ 85 ∷ 82 ∷ 78 ∷ 65 ∷ 76 ∷ 32 ∷ 51 ∷ 32 ∷ 67
 
 -- "ITEM 0 2147483647 -2147483648\n"
 abbrev pub wide2 : List ℕ
-wide2 = 73 ∷ 84 ∷ 69 ∷ 77 ∷ 32 ∷ 48 ∷ 32 ∷ 50 ∷ 49 ∷ 52 ∷ 55 ∷ 52 ∷ 56 ∷ 51 ∷ 54 ∷ 52 ∷ 55 ∷ 32 ∷ 45 ∷ 50 ∷ 49 ∷ 52 ∷ 55 ∷ 52 ∷ 56 ∷ 51 ∷ 54 ∷ 52 ∷ 56 ∷ 10 ∷ []
+wide2 =
+    73 ∷ 84 ∷ 69 ∷ 77 ∷ 32 ∷ 48 ∷ 32 ∷ 50 ∷ 49 ∷ 52 ∷ 55 ∷ 52 ∷ 56 ∷ 51 ∷ 54 ∷ 52 ∷ 55 ∷ 32 ∷ 45 ∷ 50 ∷ 49 ∷ 52 ∷ 55 ∷ 52 ∷ 56 ∷ 51
+    ∷ 54 ∷ 52 ∷ 56 ∷ 10 ∷ []
 
 -- "END 0 1 0\n"
 abbrev pub wide3 : List ℕ
@@ -99,7 +101,8 @@ pub record Decimals : Type 0 where
   -- "10"
   pub ten : decimal 10 ≡ 49 ∷ 48 ∷ []
   -- "18446744073709551615"
-  pub highest64 : decimal 18446744073709551615 ≡ 49 ∷ 56 ∷ 52 ∷ 52 ∷ 54 ∷ 55 ∷ 52 ∷ 52 ∷ 48 ∷ 55 ∷ 51 ∷ 55 ∷ 48 ∷ 57 ∷ 53 ∷ 53 ∷ 49 ∷ 54 ∷ 49 ∷ 53 ∷ []
+  pub highest64 : decimal 18446744073709551615
+      ≡ 49 ∷ 56 ∷ 52 ∷ 52 ∷ 54 ∷ 55 ∷ 52 ∷ 52 ∷ 48 ∷ 55 ∷ 51 ∷ 55 ∷ 48 ∷ 57 ∷ 53 ∷ 53 ∷ 49 ∷ 54 ∷ 49 ∷ 53 ∷ []
   -- "0"
   pub none : decimalZ (pos 0) ≡ 48 ∷ []
   -- "-1"

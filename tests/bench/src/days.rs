@@ -249,7 +249,7 @@ fn readers(builder: &mut Builder) {
         let own = builder.random.between(1, 1_000) as u32;
         let own_writes = [own, own + 1].map(|item| [(READ, item), (WRITE, item)]);
         builder.add_all(writer, &[(READ, 0), (WRITE, 0)]);
-        builder.add_all(writer, own_writes.as_flattened());
+        builder.add_all(writer, &own_writes.concat());
         builder.add_all(writer, &[(READ, 0), (COMMIT, 0)]);
         for first in (writer + 1..writer + 99).step_by(7) {
             for record in [(READ, 0), (READ, 0), (READ, 0), (COMMIT, 0)] {

@@ -13,7 +13,7 @@ use std::collections::BTreeSet;
 const DAYS: u64 = 3_000;
 const SEQUENCES: u64 = 200;
 
-/// The linear calls; start, the chain walk and the report are the plain ones.
+/// The linear calls; start, the chain walk, the count and the report are the plain ones.
 struct Linear;
 
 impl Implementation for Linear {
@@ -51,6 +51,10 @@ impl Implementation for Linear {
         out: &mut [u8],
     ) -> Result<Undone, Refusal> {
         linear::undo(journal, table, bad, status, out)
+    }
+
+    fn count_records(&self, journal: &[u8], counts: &mut [u32; 4]) -> Result<(), Refusal> {
+        plain::count_records(journal, counts)
     }
 
     fn report(&self, _: &[u8], _: &[u8], _: &[u8]) -> Vec<u8> {

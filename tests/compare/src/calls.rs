@@ -70,6 +70,15 @@ pub fn chain(journal: &[u8], transaction: u16, lsns: &mut [u32], answer: &mut u6
     }
 }
 
+/// Counts the records of a stored journal by kind (01: tally); answers 0.
+pub fn count_records(journal: &[u8], counts: &mut [u32; 4], answer: &mut u64) -> u32 {
+    // SAFETY: the journal is borrowed through the call and only read, `counts` and `answer` are borrowed alone;
+    // the length is the slice's.
+    unsafe {
+        raw::journal_count_records(journal.as_ptr(), journal.len(), counts.as_mut_ptr(), answer)
+    }
+}
+
 /// Undoes the bad list and all that depends on it (01: take-back); answers the copy's bytes.
 #[allow(clippy::too_many_arguments)]
 pub fn undo(

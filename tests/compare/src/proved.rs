@@ -20,7 +20,7 @@ fn answered<T>(number: u32, answer: u64, accepted: impl FnOnce(u64) -> T) -> Res
     }
 }
 
-/// An accepted start or append answers 0.
+/// An accepted start, append or count answers 0.
 fn nothing(answer: u64) {
     assert_eq!(answer, 0);
 }
@@ -132,6 +132,20 @@ impl Implementation for Proved {
             aborted,
             bytes,
         })
+    }
+
+    fn count_records(&self, journal: &[u8], counts: &mut [u32; 4]) -> Result<(), Refusal> {
+        let mut lent = Guarded::new(journal);
+        let mut by_kind = Guarded::new(counts);
+        let mut answer = Number::unwritten();
+        let number = calls::count_records(
+            lent.lent(),
+            by_kind.lent().try_into().unwrap(),
+            answer.lent(),
+        );
+        assert_eq!(lent.back(), journal);
+        by_kind.hand_back(counts);
+        answered(number, answer.back(), nothing)
     }
 
     /// The report is no call of the interface; the program is tried on its files.

@@ -5,6 +5,8 @@
 mod boundaries;
 #[path = "../../plain/tests/by_hand/common.rs"]
 mod common;
+#[path = "../../plain/tests/by_hand/counting.rs"]
+mod counting;
 #[path = "../../plain/tests/by_hand/cutting.rs"]
 mod cutting;
 #[path = "../../plain/tests/by_hand/example.rs"]

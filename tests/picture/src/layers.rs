@@ -5,32 +5,41 @@ use std::collections::{BTreeMap, BTreeSet};
 use std::fmt::Write;
 
 /// What a crate holds, in a few words; one that is not here is drawn by its name alone.
-const HOLDS: [(&str, &str); 21] = [
+const HOLDS: [(&str, &str); 30] = [
     ("lists", "any list"),
     ("model", "transactions, no bytes"),
+    ("example", "the example day"),
     ("format", "the 20-byte record"),
     ("journal", "document 01 at the bytes"),
     ("demands", "the demands, proved"),
     ("days", "worked days, proved"),
     ("init", "start"),
     ("fields", "refusals 1, 2 and 4"),
+    ("counts", "count, the tally"),
     ("rules", "rules 6 to 9"),
     ("validate", "check"),
     ("chain", "slip"),
     ("append", "post"),
     ("trace", "which sales go"),
     ("repair", "copy, table left, marks"),
+    ("examine", "refusals 1 to 13"),
+    ("deliver", "14, then what is lent"),
     ("undo", "take-back"),
+    ("certified", "calls with their demands"),
     ("text", "the report's lines"),
     ("report", "the report"),
+    ("worked", "worked statements"),
     ("files", "a folder's files"),
     ("takeback", "the program"),
     ("day_folders", "many folders of days"),
+    ("c_answers", "an answer for C"),
+    ("c_post", "all but take-back, for C"),
+    ("c_undo", "take-back, for C"),
     ("capi", "the C interface"),
 ];
 
 /// The crates that answer a call, and those that only state and prove.
-const CALLS: [&str; 5] = ["init", "validate", "append", "chain", "undo"];
+const CALLS: [&str; 6] = ["init", "counts", "validate", "append", "chain", "undo"];
 const STATEMENTS: [&str; 3] = ["demands", "days", "worked"];
 
 const WIDTH: f64 = 158.0;
@@ -302,7 +311,7 @@ pub fn layers(text: &str) -> String {
     let y = height - 26.0;
     let mut x = 28.0;
     for (of, word) in [
-        ("undo", "one of the five calls"),
+        ("undo", "one of the calls"),
         ("demands", "statements and proofs alone"),
         (
             "model",

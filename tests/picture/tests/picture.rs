@@ -100,6 +100,8 @@ fn the_shown_layers_are_those_of_crates_txt() {
     let shown = fs::read_to_string(root().join("docs/layers.svg")).unwrap();
     let how = "'./picture --layers >docs/layers.svg' makes it anew";
     assert!(svg == shown, "docs/layers.svg shows other layers: {how}");
+    // Each crate has a word on what it holds.
+    assert_eq!(times(&svg, "fill=\"#444\"></text>"), 0);
 }
 
 #[test]

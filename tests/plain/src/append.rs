@@ -1,4 +1,4 @@
-//! Start and post: a new journal, and one record more.
+//! Start and post: a new journal, and one record more; and the tally that post is lent.
 
 use crate::format::*;
 use crate::refusal::*;
@@ -85,6 +85,13 @@ fn link(journal: &mut [u8], records: &[Record]) {
             return;
         }
     }
+}
+
+/// The tally of a stored journal: refusals 1, 2, 1; no record is checked, and one of another kind is in
+/// none of the four.
+pub fn count_records(journal: &[u8], counts: &mut [u32; 4]) -> Result<(), Refusal> {
+    *counts = counts_of(&decode(journal)?);
+    Ok(())
 }
 
 /// The reads, writes, commits and rollbacks of the journal.

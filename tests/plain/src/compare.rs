@@ -33,6 +33,8 @@ pub trait Implementation {
         out: &mut [u8],
     ) -> Result<Undone, Refusal>;
 
+    fn count_records(&self, journal: &[u8], counts: &mut [u32; 4]) -> Result<(), Refusal>;
+
     fn report(&self, journal: &[u8], table: &[u8], bad: &[u8]) -> Vec<u8>;
 }
 
@@ -76,6 +78,10 @@ impl Implementation for Plain {
         crate::undo(journal, table, bad, status, out)
     }
 
+    fn count_records(&self, journal: &[u8], counts: &mut [u32; 4]) -> Result<(), Refusal> {
+        crate::count_records(journal, counts)
+    }
+
     fn report(&self, journal: &[u8], table: &[u8], bad: &[u8]) -> Vec<u8> {
         crate::report(journal, table, bad)
     }
@@ -113,6 +119,13 @@ pub struct UndoAnswer {
     pub out: Vec<u8>,
 }
 
+/// The answer of the count of a stored journal, and its loan.
+#[derive(Debug, Clone, Copy, PartialEq, Eq)]
+pub struct CountAnswer {
+    pub answer: Result<(), Refusal>,
+    pub counts: [u32; 4],
+}
+
 /// All answers over one day.
 #[derive(Debug, Clone, PartialEq, Eq)]
 pub struct Answers {
@@ -121,6 +134,7 @@ pub struct Answers {
     pub check: Result<u32, Refusal>,
     pub chain: ChainAnswer,
     pub undo: UndoAnswer,
+    pub count: CountAnswer,
     pub report: Vec<u8>,
 }
 
@@ -132,6 +146,7 @@ pub fn answers(calls: &impl Implementation, day: &Day) -> Answers {
         check: calls.check(&day.journal, &day.table),
         chain: chain(calls, day),
         undo: undo(calls, day),
+        count: count(calls, &day.journal),
         report: calls.report(&day.journal, &day.table_file, &day.bad_file),
     }
 }
@@ -182,6 +197,18 @@ fn undo(calls: &impl Implementation, day: &Day) -> UndoAnswer {
         table,
         status,
         out,
+    }
+}
+
+/// What is lent to be counted into: no count of a journal.
+pub const UNCOUNTED: [u32; 4] = [0xAAAA_AAAA, 0xAAAA_AAAB, 0xAAAA_AAAC, 0xAAAA_AAAD];
+
+/// The count of this journal.
+pub fn count(calls: &impl Implementation, journal: &[u8]) -> CountAnswer {
+    let mut counts = UNCOUNTED;
+    CountAnswer {
+        answer: calls.count_records(journal, &mut counts),
+        counts,
     }
 }
 

@@ -20,7 +20,7 @@ pub mod run;
 mod undo;
 mod validate;
 
-pub use append::{append, start};
+pub use append::{append, count_records, start};
 pub use chain::chain;
 pub use projection::removal;
 pub use refusal::Refusal;

@@ -55,12 +55,13 @@ impl Drop for Trying<'_> {
 }
 
 /// The refusals of each call and of the report, in the order of the table of document 01.
-pub const REFUSALS: [(&str, &[u32]); 6] = [
+pub const REFUSALS: [(&str, &[u32]); 7] = [
     ("start", &[1, 2]),
     ("append", &[1, 2, 3, 4, 5, 6, 7, 8, 9, 10, 14, 15]),
     ("check", &[1, 2, 3, 4, 5, 6, 7, 8, 9, 10]),
     ("chain", &[1, 2, 4, 5, 6, 7, 8, 9, 12, 14]),
     ("undo", &[1, 2, 3, 4, 5, 6, 7, 8, 9, 10, 11, 12, 13, 14]),
+    ("count", &[1, 2]),
     ("report", &[1, 2, 3, 4, 5, 6, 7, 8, 9, 10, 11, 12]),
 ];
 
@@ -74,13 +75,14 @@ impl Met {
         *self.0.entry((call, number)).or_default() += 1;
     }
 
-    /// The answers of the five calls.
+    /// The answers of the calls.
     pub fn note_calls(&mut self, answers: &Answers) {
         self.note("start", &answers.start.answer);
         self.note("append", &answers.append.answer);
         self.note("check", &answers.check);
         self.note("chain", &answers.chain.answer);
         self.note("undo", &answers.undo.answer);
+        self.note("count", &answers.count.answer);
     }
 
     /// A report: its refusal, or accepted.
@@ -126,9 +128,9 @@ impl Met {
         )
     }
 
-    /// The lines of the five calls.
+    /// The lines of the calls.
     pub fn lines_of_calls(&self) -> String {
-        let calls = ["start", "append", "check", "chain", "undo"];
+        let calls = ["start", "append", "check", "chain", "undo", "count"];
         calls.map(|call| self.line(call)).concat()
     }
 }

@@ -65,6 +65,27 @@ fn note_truncated(met: &mut Met, day: &Day, answers: &Answers) {
     }
 }
 
+/// The two ways to be torn; and journals that are counted though check refuses a record, among them some with a
+/// record of none of the four kinds.
+fn note_counted(met: &mut Met, day: &Day, answers: &Answers) {
+    match answers.count.answer {
+        Err(refusal) if refusal.number == 1 && day.journal.len() < 20 => {
+            note(met, "count", "1 under 20")
+        }
+        Err(refusal) if refusal.number == 1 => note(met, "count", "1 whole length"),
+        Err(_) => {}
+        Ok(()) => {
+            if let Err(refusal) = answers.check {
+                note(met, "count", format!("accepted, check {}", refusal.number));
+            }
+            let counted: u32 = answers.count.counts.iter().sum();
+            if u64::from(counted) < count(&day.journal) {
+                note(met, "count", "accepted, another kind");
+            }
+        }
+    }
+}
+
 fn note_report(met: &mut Met, text: &[u8]) {
     let text = std::str::from_utf8(text).unwrap();
     match text.strip_prefix("REFUSED ") {
@@ -83,8 +104,10 @@ fn met_in(seeds: Seeds) -> Met {
         note_answer(&mut met, "check", &answers.check);
         note_answer(&mut met, "chain", &answers.chain.answer);
         note_answer(&mut met, "undo", &answers.undo.answer);
+        note_answer(&mut met, "count", &answers.count.answer);
         note_new_record(&mut met, &day, &answers);
         note_truncated(&mut met, &day, &answers);
+        note_counted(&mut met, &day, &answers);
         note_report(&mut met, &answers.report);
         if count(&day.journal) == 3_200 {
             note_answer(&mut met, "undo of 3,200", &answers.undo.answer);
@@ -93,7 +116,7 @@ fn met_in(seeds: Seeds) -> Met {
     met
 }
 
-const CASES: [(&str, &str); 20] = [
+const CASES: [(&str, &str); 31] = [
     ("append", "4 old"),
     ("append", "5 old"),
     ("append", "6 old"),
@@ -112,6 +135,17 @@ const CASES: [(&str, &str); 20] = [
     ("append", "14 no room"),
     ("check", "1 under 20"),
     ("check", "1 whole length"),
+    ("count", "1 under 20"),
+    ("count", "1 whole length"),
+    ("count", "accepted, check 3"),
+    ("count", "accepted, check 4"),
+    ("count", "accepted, check 5"),
+    ("count", "accepted, check 6"),
+    ("count", "accepted, check 7"),
+    ("count", "accepted, check 8"),
+    ("count", "accepted, check 9"),
+    ("count", "accepted, check 10"),
+    ("count", "accepted, another kind"),
     ("undo of 3,200", "accepted"),
     ("undo of 3,200", "11"),
 ];

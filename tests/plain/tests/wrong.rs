@@ -3,6 +3,7 @@
 use plain::compare::Implementation;
 use plain::days::Append;
 use plain::format::{Record, RECORD_BYTES};
+use plain::properties::counting::*;
 use plain::properties::cutting::*;
 use plain::properties::history::History;
 use plain::properties::loans::bytes_behind_the_last_record_do_not_matter;
@@ -99,6 +100,7 @@ struct Wrong {
     chain: fn(&[u8], u16, &mut [u32]) -> Result<u32, Refusal>,
     append: fn(Appending) -> Result<(), Refusal>,
     undo: fn(Undoing) -> Result<Undone, Refusal>,
+    count: fn(&[u8], &mut [u32; 4]) -> Result<(), Refusal>,
 }
 
 impl Implementation for Wrong {
@@ -154,6 +156,10 @@ impl Implementation for Wrong {
         })
     }
 
+    fn count_records(&self, journal: &[u8], counts: &mut [u32; 4]) -> Result<(), Refusal> {
+        (self.count)(journal, counts)
+    }
+
     fn report(&self, journal: &[u8], table: &[u8], bad: &[u8]) -> Vec<u8> {
         plain::report(journal, table, bad)
     }
@@ -165,6 +171,7 @@ fn right() -> Wrong {
         chain: plain::chain,
         append: |mut given| given.right(),
         undo: |given| given.right(),
+        count: plain::count_records,
     }
 }
 
@@ -180,6 +187,13 @@ fn undo_is_seen(holds: fn(&Wrong, u64) -> u64, undo: fn(Undoing) -> Result<Undon
 
 fn append_is_seen(holds: fn(&Wrong, u64) -> u64, append: fn(Appending) -> Result<(), Refusal>) {
     is_seen(holds, Wrong { append, ..right() });
+}
+
+fn count_is_seen(
+    holds: fn(&Wrong, u64) -> u64,
+    count: fn(&[u8], &mut [u32; 4]) -> Result<(), Refusal>,
+) {
+    is_seen(holds, Wrong { count, ..right() });
 }
 
 fn once(names: &[u16]) -> Vec<u16> {
@@ -418,4 +432,98 @@ fn passing_over_unknown_names() {
     };
     undo_is_seen(which_lists_undo_accepts, lenient);
     undo_is_seen(incremental_repair_equals_one_call, lenient);
+}
+
+#[test]
+fn counting_into_what_is_there() {
+    let adding = |journal: &[u8], counts: &mut [u32; 4]| {
+        let mut own = [0; 4];
+        plain::count_records(journal, &mut own)?;
+        (0..4).for_each(|kind| counts[kind] = counts[kind].wrapping_add(own[kind]));
+        Ok(())
+    };
+    count_is_seen(counts_are_those_of_the_kinds, adding);
+    count_is_seen(posting_goes_on_after_a_take_back, adding);
+}
+
+#[test]
+fn counting_rollbacks_as_commits() {
+    let ends = |journal: &[u8], counts: &mut [u32; 4]| {
+        plain::count_records(journal, counts)?;
+        counts[2] += counts[3];
+        counts[3] = 0;
+        Ok(())
+    };
+    count_is_seen(counts_are_those_of_the_kinds, ends);
+}
+
+#[test]
+fn counting_all_but_the_last_record() {
+    let fewer = |journal: &[u8], counts: &mut [u32; 4]| {
+        let mut shorter = journal.to_vec();
+        if let Some(count @ 1..) = journal.get(4).copied() {
+            shorter[4] = count - 1;
+        }
+        plain::count_records(&shorter, counts)
+    };
+    count_is_seen(counts_are_those_of_the_kinds, fewer);
+    count_is_seen(posting_goes_on_after_a_take_back, fewer);
+}
+
+#[test]
+fn counting_behind_the_last_record() {
+    let behind = |journal: &[u8], counts: &mut [u32; 4]| {
+        plain::count_records(journal, counts)?;
+        *counts = [0; 4];
+        for record in journal.chunks_exact(RECORD_BYTES).skip(1) {
+            if let kind @ 1..=4 = record[0] {
+                counts[kind as usize - 1] += 1;
+            }
+        }
+        Ok(())
+    };
+    count_is_seen(bytes_behind_the_last_record_do_not_matter, behind);
+    count_is_seen(counts_are_those_of_the_kinds, behind);
+}
+
+#[test]
+fn counting_other_kinds_too() {
+    let others = |journal: &[u8], counts: &mut [u32; 4]| {
+        plain::count_records(journal, counts)?;
+        let records = Record::decode(journal).next;
+        counts[3] = records - counts[0] - counts[1] - counts[2];
+        Ok(())
+    };
+    count_is_seen(counts_are_those_of_the_kinds, others);
+}
+
+#[test]
+fn checking_what_is_counted() {
+    let strict = |journal: &[u8], counts: &mut [u32; 4]| {
+        let mut lsns = [0; 3_200];
+        match plain::chain(journal, 1, &mut lsns) {
+            Err(refusal) if refusal.number < 10 => Err(refusal),
+            _ => plain::count_records(journal, counts),
+        }
+    };
+    count_is_seen(counts_are_those_of_the_kinds, strict);
+}
+
+#[test]
+fn counting_a_torn_journal() {
+    let torn = |journal: &[u8], counts: &mut [u32; 4]| {
+        let mut longer = journal.to_vec();
+        longer.resize(64_020, 0);
+        plain::count_records(&longer, counts)
+    };
+    count_is_seen(counts_are_those_of_the_kinds, torn);
+}
+
+#[test]
+fn counting_where_refused() {
+    let clearing = |journal: &[u8], counts: &mut [u32; 4]| {
+        *counts = [0; 4];
+        plain::count_records(journal, counts)
+    };
+    count_is_seen(counts_are_those_of_the_kinds, clearing);
 }

@@ -1,6 +1,6 @@
 -- `append::agrees` meets its contract.
 -- Assumes nothing.
-use Rattle.append.proofs.KindCounts.{agreed}
+use Rattle.append.proofs.Agreeing.{agreed}
 use borrow.Author.Needs.{needs}
 use Rattle.append.proofs.agrees.Statement.{statement}
 use Rattle.append.proofs.agrees.Tie as tie

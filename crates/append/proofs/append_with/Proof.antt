@@ -3,7 +3,7 @@
 use mathlib.Core.Path.{_≡_, _∙_}
 use denote.Ref.{now}
 use Rattle.journal.specs.Calls.{newRecord}
-use Rattle.append.proofs.Results.{from-bits, from-table, never, append-refused, append-admitted, append-done}
+use Rattle.append.proofs.Results.{from-bits, from-table, refused-not-enter, append-refused, append-admitted, append-done}
 use borrow.Author.Needs.{needs}
 use Rattle.append.proofs.append_with.Statement.{statement}
 use Rattle.append.proofs.append_with.Tie as tie
@@ -14,10 +14,10 @@ entry r = r .before .before .before
 
 -- the new record is the one that document 01 asks for
 made : (r : tie.After-new-record)
-    → r .new-record .result ≡ newRecord (now (entry r .args .table)) (entry r .args .kind) (entry r .args .transaction) (entry r .args .item) (entry r .args .after)
+    → r .new-record .result ≡ newRecord (now (entry r .args .table)) (entry r .args .kind) (entry r .args .transaction .0) (entry r .args .item .0) (entry r .args .after)
 made r =
     let a = entry r in
-    from-bits (now (a .args .table)) (a .args .kind) (a .args .transaction) (a .args .item) (a .args .after) _ (a .fits .after) (r .new-record .ensures)
+    from-bits (now (a .args .table)) (a .args .kind) (a .args .transaction .0) (a .args .item .0) (a .args .after) _ (a .fits .after) (r .new-record .ensures)
 
 prepare-requires : tie.Need-prepare-requires
 prepare-requires c κs =
@@ -26,7 +26,7 @@ prepare-requires c κs =
 
 returns : tie.Need-returns
 returns c =
-    never _ _ (c .enum-told .given .1)
+    refused-not-enter _ _ (c .enum-told .given .1)
 
 returns-2 : tie.Need-returns-2
 returns-2 c =
@@ -59,5 +59,5 @@ append-with-spec =
     (λ c κs. search needs) prepare-requires
     (λ c. search needs) (λ c. search needs) (λ c. search needs) (λ c. search needs) (λ c. search needs) (λ c. search needs) returns
     (λ c. search needs) (λ c. search needs) returns-2
-    (λ c. search needs) enter-requires
+    enter-requires
     (λ c. search needs) (λ c. search needs) returns-3)

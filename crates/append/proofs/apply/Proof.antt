@@ -25,6 +25,6 @@ pub apply-spec : {M : Type 1} → statement M
 apply-spec =
     tie.close
     (tie.spec
-    (λ c. search needs) put-amount-requires
+    put-amount-requires
     (λ c κs. search needs) (λ c. search needs) returns
     (λ c. search needs) returns-2 returns-3)

@@ -19,4 +19,4 @@ returns-3 c =
 
 pub before-image-spec : {M : Type 1} → statement M
 before-image-spec =
-    tie.close (tie.spec (λ c. search needs) (λ c. search needs) returns returns-2 returns-3)
+    tie.close (tie.spec (λ c. search needs) (λ c. search needs) (λ c. search needs) returns returns-2 returns-3)

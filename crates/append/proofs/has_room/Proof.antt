@@ -1,6 +1,6 @@
 -- `append::has_room` meets its contract.
 -- Assumes nothing.
-use Rattle.append.proofs.KindCounts.{room-full, room-left}
+use Rattle.append.proofs.Agreeing.{room-full, room-left}
 use borrow.Author.Needs.{needs}
 use Rattle.append.proofs.has_room.Statement.{statement}
 use Rattle.append.proofs.has_room.Tie as tie

@@ -31,4 +31,4 @@ judge-new-spec =
     (tie.spec
     (λ c κs. search needs) judge-added-requires
     (λ c. search needs) (λ c. search needs) returns
-    (λ c κs. search needs) (λ c. search needs) (λ c. search needs) returns-2 returns-3 returns-4)
+    (λ c κs. search needs) (λ c. search needs) returns-2 returns-3 returns-4)

@@ -13,7 +13,7 @@ use Rattle.append.proofs.last_of.Tie as tie
 
 abbrev Inv-loop : tie.InvT-loop
 Inv-loop journal n s last₀ i₀ last i =
-    (i ≤ n) × (last ≡ tagIn (latest (ofTx s) (history journal i)))
+    (i ≤ n) × (last .0 ≡ tagIn (latest (ofTx (s .0)) (history journal i)))
 
 abbrev μ-loop : tie.MeasureT-loop
 μ-loop journal n s last₀ i₀ last i =

@@ -14,4 +14,4 @@ returns-2 c =
     search linked-none
 
 pub link-spec : {M : Type 1} → statement M
-link-spec = tie.close (tie.spec (λ c. search needs) (λ c. search needs) (λ c κs. search needs) (λ c. search needs) returns returns-2)
+link-spec = tie.close (tie.spec (λ c. search needs) (λ c. search needs) (λ c. search needs) (λ c κs. search needs) (λ c. search needs) returns returns-2)

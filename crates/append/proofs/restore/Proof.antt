@@ -7,7 +7,7 @@ use Rattle.append.proofs.restore.Tie as tie
 
 abbrev Inv-loop : tie.InvT-loop
 Inv-loop journal n s table₀ i₀ table i =
-    Undoing journal n s table₀ i table
+    Undoing journal n (s .0) table₀ i table
 
 abbrev μ-loop : tie.MeasureT-loop
 μ-loop journal n s table₀ i₀ table i =

@@ -1,6 +1,6 @@
 -- `append::same_counts` meets its contract.
 -- Assumes nothing.
-use Rattle.append.proofs.KindCounts.{unlike-reads, unlike-writes, unlike-commits, like-aborts}
+use Rattle.append.proofs.Agreeing.{unlike-reads, unlike-writes, unlike-commits, like-aborts}
 use Rattle.append.proofs.same_counts.Statement.{statement}
 use Rattle.append.proofs.same_counts.Tie as tie
 

@@ -23,4 +23,4 @@ returns-3 c =
 
 pub undo-write-spec : {M : Type 1} → statement M
 undo-write-spec =
-    tie.close (tie.spec (λ c κs. search needs) (λ c. search needs) put-amount-requires (λ c. search needs) returns returns-2 returns-3)
+    tie.close (tie.spec (λ c κs. search needs) put-amount-requires (λ c. search needs) returns returns-2 returns-3)

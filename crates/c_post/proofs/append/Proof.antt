@@ -5,23 +5,33 @@ use denote.Ref.{now}
 use mir.Syntax.{w32}
 use mir.ValLaws.{toZ-ofZ}
 use borrow.Author.Needs.{needs}
+use Rattle.journal.specs.Inputs.{inputsOf}
+use Rattle.demands.specs.Appending.{AppendCall}
 use Rattle.c_post.proofs.AppendLaws.{append-leaves}
 use Rattle.c_post.proofs.append.Statement.{statement}
 use Rattle.c_post.proofs.append.Tie as tie
 
+-- the call asked for
+abbrev asked : tie.Start → AppendCall
+asked s = record { kind = s .args .kind; tx = s .args .transaction; item = s .args .item; after = s .args .after }
+
 returns : tie.Need-returns
 returns c =
-    let called : tie.After-append-counted = c .before .before .before .before .before .before .before in
-    let start = called .before .before .before .before .before .before .before .before in
-    let appends = rw (toZ-ofZ w32 (start .args .after) (start .fits .after)) at (called .append-counted .ensures) in
-    append-leaves (now (start .args .counts)) appends (c .before .before .enum-told .given .1) refl refl refl
+    let told : tie.After-enum-told = search in
+    let called : tie.After-append = search in
+    let start : tie.Start = search in
+    let appends = rw (toZ-ofZ w32 (start .args .after) (start .fits .after)) at (called .append .ensures) in
+    append-leaves (inputsOf (now (start .args .journal)) (now (start .args .table))) (asked start) (now (start .args .counts)) (appends .1) (appends .0)
+    (told .enum-told .given .1) refl refl refl
 
 returns-2 : tie.Need-returns-2
 returns-2 c =
-    let called : tie.After-append-counted = c .before .before .before .before .before .before .before .before in
-    let start = called .before .before .before .before .before .before .before .before in
-    let appends = rw (toZ-ofZ w32 (start .args .after) (start .fits .after)) at (called .append-counted .ensures) in
-    append-leaves (now (start .args .counts)) appends (c .before .before .before .outcome .given .1) (c .refuse .ensures .0) (c .refuse .ensures .1) refl
+    let refused : tie.After-outcome = search in
+    let called : tie.After-append = search in
+    let start : tie.Start = search in
+    let appends = rw (toZ-ofZ w32 (start .args .after) (start .fits .after)) at (called .append .ensures) in
+    append-leaves (inputsOf (now (start .args .journal)) (now (start .args .table))) (asked start) (now (start .args .counts)) (appends .1) (appends .0)
+    (refused .outcome .given .1) (c .refuse .ensures .0) (c .refuse .ensures .1) refl
 
 pub append-spec : {M : Type 1} → statement M
 append-spec =

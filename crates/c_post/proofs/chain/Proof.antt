@@ -1,32 +1,36 @@
 -- `c_post::chain` meets its contract: what it returns and writes is the walk's own answer, case by case.
 -- Assumes nothing.
-use mathlib.Core.Path.{_∙_, ap, sym}
+use mathlib.Core.Path.{_∙_, refl}
+use denote.Ref.{now}
 use borrow.Author.Needs.{needs}
-use Rattle.chain.specs.Answers.{answerOf}
-use Rattle.c_answers.specs.Results.{resultOf, answerWith}
+use Rattle.c_post.proofs.ChainLaws.{chain-leaves, never-visited}
 use Rattle.c_post.proofs.chain.Statement.{statement}
 use Rattle.c_post.proofs.chain.Tie as tie
 
 returns : tie.Need-returns
-returns c = (search needs, (search needs, c .before .before .before .before .before .before .before .chain .ensures .1))
+returns c = let told : tie.After-enum-told = search in never-visited _ _ (told .enum-told .given .1)
 
 returns-2 : tie.Need-returns-2
 returns-2 c =
-    let is = c .before .before .before .before .before .before .walked2 .given .1 ∙ c .before .before .before .walked3 .given .1 in
-    let chain = c .before .before .before .before .before .before .before .before .before .before .chain .ensures in
-    let e = ap answerOf (sym is) ∙ chain .0 in
-    (c .refuse .ensures .0 ∙ ap resultOf e, (c .refuse .ensures .1 ∙ ap (answerWith (λ n. n)) e, chain .1))
+    let q : tie.After-walked3 = search in
+    let p : tie.After-walked2 = search in
+    let called : tie.After-chain = search in
+    let start : tie.Start = search in
+    chain-leaves (now (start .args .journal)) (start .args .transaction) (now (start .args .lsns)) (called .chain .ensures)
+    (p .walked2 .given .1 ∙ q .walked3 .given .1) (c .refuse2 .ensures .0) (c .refuse2 .ensures .1)
 
 returns-3 : tie.Need-returns-3
 returns-3 c =
-    let chain = c .before .before .before .before .before .chain .ensures in
-    let e = ap answerOf (sym (c .before .walked .given .1)) ∙ chain .0 in
-    (ap resultOf e, (ap (answerWith (λ n. n)) e, chain .1))
+    let p : tie.After-walked = search in
+    let called : tie.After-chain = search in
+    let start : tie.Start = search in
+    chain-leaves (now (start .args .journal)) (start .args .transaction) (now (start .args .lsns)) (called .chain .ensures) (p .walked .given .1) refl refl
 
 pub chain-spec : {M : Type 1} → statement M
 chain-spec =
     tie.close
     (tie.spec
+    (search needs)
     (search needs)
     (search needs)
     (search needs)

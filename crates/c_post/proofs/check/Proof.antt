@@ -1,22 +1,31 @@
 -- `c_post::check` meets its contract: what it returns and writes is check's own answer, case by case.
 -- Assumes nothing.
-use mathlib.Core.Path.{_∙_, ap, sym}
+use mathlib.Core.Path.{_∙_, refl}
+use denote.Ref.{now}
 use borrow.Author.Needs.{needs}
-use Rattle.validate.specs.Answers.{answerOf}
-use Rattle.c_answers.specs.Results.{resultOf, answerWith}
+use Rattle.journal.specs.Inputs.{inputsOf}
+use Rattle.c_post.proofs.CheckLaws.{check-leaves, never-active}
 use Rattle.c_post.proofs.check.Statement.{statement}
 use Rattle.c_post.proofs.check.Tie as tie
 
+returns : tie.Need-returns
+returns c = let told : tie.After-enum-told = search in never-active _ _ (told .enum-told .given .1)
+
 returns-2 : tie.Need-returns-2
 returns-2 c =
-    let is = c .before .before .before .before .before .before .checked2 .given .1 ∙ c .before .before .before .checked3 .given .1 in
-    let e = ap answerOf (sym is) ∙ c .before .before .before .before .before .before .before .before .check .ensures in
-    (c .refuse .ensures .0 ∙ ap resultOf e, c .refuse .ensures .1 ∙ ap (answerWith (λ n. n)) e)
+    let q : tie.After-checked3 = search in
+    let p : tie.After-checked2 = search in
+    let called : tie.After-check = search in
+    let start : tie.Start = search in
+    check-leaves (inputsOf (now (start .args .journal)) (now (start .args .table))) (called .check .ensures)
+    (p .checked2 .given .1 ∙ q .checked3 .given .1) (c .refuse2 .ensures .0) (c .refuse2 .ensures .1)
 
 returns-3 : tie.Need-returns-3
 returns-3 c =
-    let e = ap answerOf (sym (c .before .checked .given .1)) ∙ c .before .before .before .check .ensures in
-    (ap resultOf e, ap (answerWith (λ n. n)) e)
+    let p : tie.After-checked = search in
+    let called : tie.After-check = search in
+    let start : tie.Start = search in
+    check-leaves (inputsOf (now (start .args .journal)) (now (start .args .table))) (called .check .ensures) (p .checked .given .1) refl refl
 
 pub check-spec : {M : Type 1} → statement M
 check-spec =
@@ -28,6 +37,7 @@ check-spec =
     (search needs)
     (search needs)
     (search needs)
+    returns
     (search needs)
     returns-2
     (search needs)

@@ -8,8 +8,8 @@ use Rattle.capi.proofs.journal_append.Tie as tie
 
 returns : tie.Need-returns
 returns c =
-    let called : tie.After-append = c .before .before .before in
-    let start = called .before .before .before .before .before .before in
+    let called : tie.After-append = search in
+    let start : tie.Start = search in
     rw (toZ-ofZ w32 (start .args .after) (start .fits .after)) at (called .append .ensures)
 
 pub journal-append-spec : {M : Type 1} → statement M

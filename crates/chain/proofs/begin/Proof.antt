@@ -14,7 +14,7 @@ returns-2 c =
     let p : tie.After-head2 = search in
     let h : tie.After-header = search in
     let a : tie.Start = search in
-    begin-refused (now (a .args .journal)) (a .args .s) (h .header .result) (h .header .ensures) _ (p .head2 .given .1 ∙ q .head3 .given .1)
+    begin-refused (now (a .args .journal)) (a .args .s .0) (h .header .result) (h .header .ensures) _ (p .head2 .given .1 ∙ q .head3 .given .1)
 
 begin-opened-requires : tie.Need-begin-opened-requires
 begin-opened-requires c κs =
@@ -29,4 +29,4 @@ begin-spec =
     tie.close
     (tie.spec
     (λ c κs. search needs) (λ c. search needs) (λ c. search needs) (λ c. search needs) (λ c. search needs) (λ c. search needs) returns-2
-    (λ c. search needs) begin-opened-requires returns-3)
+    begin-opened-requires returns-3)

@@ -19,7 +19,7 @@ returns-2 c =
     let r : tie.After-records = search in
     let a : tie.Start = search in
     let v = r .records in
-    first-refused (now (a .args .journal)) (a .args .n) (a .args .keys) (a .args .s) (a .pre) (v .result) (v .ensures .0) _ (p .passed .given .1 ∙ q .passed2 .given .1)
+    first-refused (now (a .args .journal)) (a .args .n) (a .args .keys) (a .args .s .0) (a .pre) (v .result) (v .ensures .0) _ (p .passed .given .1 ∙ q .passed2 .given .1)
 
 returns-3 : tie.Need-returns-3
 returns-3 c =
@@ -27,7 +27,7 @@ returns-3 c =
     let r : tie.After-records = search in
     let a : tie.Start = search in
     let v = r .records in
-    first-passed (now (a .args .journal)) (a .args .n) (a .args .keys) (a .args .s) (a .pre) (v .result) (v .ensures .0) _ _ _ _ _ _ _ (p .enum-told .given .1) (v .ensures .1) (c .first-of .ensures)
+    first-passed (now (a .args .journal)) (a .args .n) (a .args .keys) (a .args .s .0) (a .pre) (v .result) (v .ensures .0) _ _ _ _ _ _ _ (p .enum-told .given .1) (v .ensures .1) (c .first-of .ensures)
 
 pub begin-opened-spec : {M : Type 1} → statement M
 begin-opened-spec =

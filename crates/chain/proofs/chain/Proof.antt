@@ -14,7 +14,7 @@ returns-2 c =
     let b : tie.After-begin = search in
     let a : tie.Start = search in
     let h = b .begin in
-    chain-refused (now (a .args .journal)) (a .args .transaction) (now (a .args .lsns)) (h .result) (h .ensures) _ (p .begun2 .given .1 ∙ q .begun3 .given .1)
+    chain-refused (now (a .args .journal)) (a .args .transaction .0) (now (a .args .lsns)) (h .result) (h .ensures) _ (p .begun2 .given .1 ∙ q .begun3 .given .1)
 
 visited-requires : tie.Need-visited-requires
 visited-requires c κs =
@@ -27,7 +27,7 @@ returns-3 c =
     let b : tie.After-begin = search in
     let a : tie.Start = search in
     let h = b .begin in
-    chain-short (now (a .args .journal)) (a .args .transaction) (now (a .args .lsns)) (h .result) (h .ensures) _ (p .begun .given .1) _ (v .visited .ensures .0) (c .if1 .taken)
+    chain-short (now (a .args .journal)) (a .args .transaction .0) (now (a .args .lsns)) (h .result) (h .ensures) _ (p .begun .given .1) _ (v .visited .ensures .0) (c .if1 .taken)
 
 follow-requires : tie.Need-follow-requires
 follow-requires c κs =
@@ -42,13 +42,12 @@ returns-4 c =
     let b : tie.After-begin = search in
     let a : tie.Start = search in
     let h = b .begin in
-    chain-walked (now (a .args .journal)) (a .args .transaction) (now (a .args .lsns)) (h .result) (h .ensures) _ (p .begun .given .1) _ _ (v .visited .ensures .0) (t .if1 .left) (f .follow .ensures)
+    chain-walked (now (a .args .journal)) (a .args .transaction .0) (now (a .args .lsns)) (h .result) (h .ensures) _ (p .begun .given .1) _ _ (v .visited .ensures .0) (t .if1 .left) (f .follow .ensures)
 
 pub chain-spec : {M : Type 1} → statement M
 chain-spec =
     tie.close
     (tie.spec
     (λ c κs. search needs) (λ c. search needs) (λ c. search needs) (λ c. search needs) (λ c. search needs) (λ c. search needs) returns-2
-    (λ c. search needs) visited-requires returns-3
-    (λ c. search needs) follow-requires
+    visited-requires returns-3 follow-requires
     (λ c. search needs) (λ c. search needs) returns-4)

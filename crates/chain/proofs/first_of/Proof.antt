@@ -17,4 +17,4 @@ returns-2 c =
     search first-at
 
 pub first-of-spec : {M : Type 1} → statement M
-first-of-spec = tie.close (tie.spec number-at-requires returns returns-2)
+first-of-spec = tie.close (tie.spec (λ c. search needs) number-at-requires returns returns-2)

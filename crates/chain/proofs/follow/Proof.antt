@@ -6,21 +6,18 @@ use lib.ListN.{take}
 use borrow.Author.Needs.{needs}
 use Rattle.journal.specs.Journal.{count}
 use Rattle.journal.specs.Calls.{walk, written}
-use Rattle.chain.proofs.Steps.{Walking, walking-start, walking-long, walking-small, walking-less, walking-step, walking-in, walking-write, walking-written, walking-same}
+use Rattle.chain.proofs.Steps.{Walking, walking-start, walking-long, walking-less, walking-step, walking-in, walking-write, walking-written, walking-same}
 use Rattle.chain.proofs.follow.Statement.{statement}
 use Rattle.chain.proofs.follow.Tie as tie
 
 abbrev Inv-loop : tie.InvT-loop
-Inv-loop journal first lsns₀ k₀ i₀ lsns k i = Walking journal first k i × (lsns ≡ written (take k (walk journal (count journal) first)) lsns₀)
+Inv-loop journal lsns₀ k₀ i₀ lsns k i = Walking journal (i₀ .0) k (i .0) × (lsns ≡ written (take k (walk journal (count journal) (i₀ .0))) lsns₀)
 
 abbrev μ-loop : tie.MeasureT-loop
-μ-loop journal first lsns₀ k₀ i₀ lsns k i = count journal - k
+μ-loop journal lsns₀ k₀ i₀ lsns k i = count journal - k
 
 loop-holds : tie.Need-loop-holds Inv-loop μ-loop
 loop-holds c = (search walking-start, search)
-
-cast-lsns : tie.Need-cast-lsns Inv-loop μ-loop
-cast-lsns c = search (walking-small, needs)
 
 mul-lsns : tie.Need-mul-lsns Inv-loop μ-loop
 mul-lsns c = search (walking-in, needs)
@@ -47,5 +44,5 @@ pub follow-spec : {M : Type 1} → statement M
 follow-spec =
     tie.close
     (tie.spec
-    Inv-loop μ-loop loop-holds cast-lsns mul-lsns slice-write-lsns next-at-requires
-    (λ c. search needs) (λ c. search needs) loop-less loop-again same-length returns)
+    Inv-loop μ-loop loop-holds mul-lsns slice-write-lsns next-at-requires
+    (λ c. search needs) loop-less loop-again same-length returns)

@@ -8,10 +8,10 @@ use Rattle.chain.proofs.visited.Statement.{statement}
 use Rattle.chain.proofs.visited.Tie as tie
 
 abbrev Inv-loop : tie.InvT-loop
-Inv-loop journal first k₀ i₀ k i = Walking journal first k i
+Inv-loop journal k₀ i₀ k i = Walking journal (i₀ .0) k (i .0)
 
 abbrev μ-loop : tie.MeasureT-loop
-μ-loop journal first k₀ i₀ k i = count journal - k
+μ-loop journal k₀ i₀ k i = count journal - k
 
 loop-holds : tie.Need-loop-holds Inv-loop μ-loop
 loop-holds c = search walking-start
@@ -30,4 +30,4 @@ returns c = (search walking-counts, search walking-few)
 
 pub visited-spec : {M : Type 1} → statement M
 visited-spec =
-    tie.close (tie.spec Inv-loop μ-loop loop-holds next-at-requires (λ c. search needs) (λ c. search needs) loop-less loop-again returns)
+    tie.close (tie.spec Inv-loop μ-loop loop-holds next-at-requires (λ c. search needs) loop-less loop-again returns)

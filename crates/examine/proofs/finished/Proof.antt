@@ -3,7 +3,6 @@
 use Prim.Native.Nat.{_≤_, _-_}
 use mathlib.Core.Path.{_≡_}
 use native.Mathlib.Omega.{arith}
-use borrow.Author.Needs.{needs}
 use Rattle.journal.specs.Orders.{tryEach, activeOrder, decide}
 use Rattle.examine.proofs.StagesLaws.{active-start, active-passed, active-refused}
 use Rattle.journal.proofs.OrdersLaws.{tried-done}
@@ -23,22 +22,9 @@ loop-holds : tie.Need-loop-holds Inv-loop μ-loop
 loop-holds c =
     (omega arith, omega arith, search active-start)
 
-is-active-requires : tie.Need-is-active-requires Inv-loop μ-loop
-is-active-requires c κs =
-    omega arith
-
-cast-t6 : tie.Need-cast-t6 Inv-loop μ-loop
-cast-t6 c = omega arith
-
 returns : tie.Need-returns Inv-loop μ-loop
 returns c =
     search active-refused
-
-add-s : tie.Need-add-s Inv-loop μ-loop
-add-s c = omega arith
-
-loop-less : tie.Need-loop-less Inv-loop μ-loop
-loop-less c = omega arith
 
 loop-again : tie.Need-loop-again Inv-loop μ-loop
 loop-again c =
@@ -52,13 +38,4 @@ pub finished-spec : {M : Type 1} → statement M
 finished-spec =
     tie.close
     (tie.spec
-    Inv-loop
-    μ-loop
-    loop-holds
-    is-active-requires
-    cast-t6
-    returns
-    add-s
-    loop-less
-    loop-again
-    returns-2)
+    Inv-loop μ-loop loop-holds (λ c κs. omega arith) returns (λ c. omega arith) (λ c. omega arith) loop-again returns-2)

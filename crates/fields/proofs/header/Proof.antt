@@ -1,6 +1,6 @@
 -- `fields::header` meets its contract.
 -- Assumes nothing.
-use Rattle.fields.proofs.Fields.{read-size, open-short, read-torn, read-head}
+use Rattle.fields.proofs.Fields.{read-size, open-short, read-truncated, read-head}
 use borrow.Author.Needs.{needs}
 use Rattle.fields.proofs.header.Statement.{statement}
 use Rattle.fields.proofs.header.Tie as tie
@@ -15,6 +15,6 @@ header-spec =
     (search needs)
     (search needs)
     (search needs)
-    (λ c. search read-torn)
+    (λ c. search read-truncated)
     (λ c. search read-size)
     (λ c. search read-head))

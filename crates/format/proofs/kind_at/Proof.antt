@@ -10,4 +10,4 @@ returns : tie.Need-returns
 returns c = sym (kind-at _ _)
 
 pub kind-at-spec : {M : Type 1} → statement M
-kind-at-spec = tie.close (tie.spec (search needs) (search needs) returns)
+kind-at-spec = tie.close (tie.spec (search needs) (search needs) (search needs) returns)

@@ -10,4 +10,4 @@ returns : tie.Need-returns
 returns c = c .value4 .ensures ∙ sym (next-at _ _)
 
 pub next-at-spec : {M : Type 1} → statement M
-next-at-spec = tie.close (tie.spec (search needs) (search needs) (search needs) returns)
+next-at-spec = tie.close (tie.spec (search needs) (search needs) (search needs) (search needs) returns)

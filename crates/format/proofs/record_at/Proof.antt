@@ -11,14 +11,22 @@ use Rattle.format.proofs.record_at.Tie as tie
 
 returns : tie.Need-returns
 returns c =
-    rw (amount-bits {z = c .before .before .amount-of .result} (record { sfits = c .before .before .amount-of .ok }), amount-bits {z = c .amount-of2 .result} (record { sfits = c .amount-of2 .ok }))
-    (recordAt-made (now (c .before .before .before .before .before .before .before .before .before .before .args .journal)) (c .before .before .before .before .before .before .before .before .before .before .args .i) (c .before .before .before .before .before .before .value2 .ensures) (c .before .before .before .before .before .value4 .ensures) (c .before .before .before .before .value42 .ensures)
-    (c .before .before .amount-of .ensures ∙ ap amount (c .before .before .before .value43 .ensures)) (c .amount-of2 .ensures ∙ ap amount (c .before .value44 .ensures)))
+    let a : tie.Start = search in
+    let t : tie.After-value2 = search in
+    let n : tie.After-value4 = search in
+    let x : tie.After-value42 = search in
+    let p : tie.After-value43 = search in
+    let q : tie.After-amount-of = search in
+    let u : tie.After-value44 = search in
+    rw (amount-bits {z = q .amount-of .result} (record { sfits = q .amount-of .ok }), amount-bits {z = c .amount-of2 .result} (record { sfits = c .amount-of2 .ok }))
+    (recordAt-made (now (a .args .journal)) (a .args .i .0) (t .value2 .ensures) (n .value4 .ensures) (x .value42 .ensures)
+    (q .amount-of .ensures ∙ ap amount (p .value43 .ensures)) (c .amount-of2 .ensures ∙ ap amount (u .value44 .ensures)))
 
 pub record-at-spec : {M : Type 1} → statement M
 record-at-spec =
     tie.close
     (tie.spec
+    (search needs)
     (search needs)
     (search needs)
     (search needs)

@@ -10,4 +10,4 @@ returns : tie.Need-returns
 returns c = c .value2 .ensures ∙ sym (transaction-at _ _)
 
 pub transaction-at-spec : {M : Type 1} → statement M
-transaction-at-spec = tie.close (tie.spec (search needs) (search needs) (search needs) returns)
+transaction-at-spec = tie.close (tie.spec (search needs) (search needs) (search needs) (search needs) returns)

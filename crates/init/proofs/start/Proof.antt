@@ -2,13 +2,13 @@
 -- Assumes nothing.
 use native.Mathlib.Omega.{arith}
 use denote.Ref.{now}
-use Rattle.init.proofs.Orders.{truncated, no-items, many-items, started}
+use Rattle.init.proofs.Orders.{start-truncated, no-items, many-items, started}
 use borrow.Author.Needs.{needs}
 use Rattle.init.proofs.start.Statement.{statement}
 use Rattle.init.proofs.start.Tie as tie
 
 returns : tie.Need-returns
-returns c = truncated (now (c .before .before .args .journal)) (c .before .before .args .items) (omega arith)
+returns c = start-truncated (now (c .before .before .args .journal)) (c .before .before .args .items) (omega arith)
 
 returns-2 : tie.Need-returns-2
 returns-2 c = no-items (now (c .before .before .before .args .journal)) (c .before .before .before .args .items) (omega arith) (omega arith)

@@ -1,18 +1,9 @@
 -- `repair::open_item` meets its contract: the before image is stored at the first write only.
 -- Assumes nothing.
 use borrow.Author.Needs.{needs}
-use Rattle.repair.proofs.RestoreLaws.{opened-first, opened-later}
+use Rattle.repair.proofs.ReplayLaws.{opened-first, opened-later}
 use Rattle.repair.proofs.open_item.Statement.{statement}
 use Rattle.repair.proofs.open_item.Tie as tie
-
-code-at-requires : tie.Need-code-at-requires
-code-at-requires c κs = search needs
-
-set-amount-requires : tie.Need-set-amount-requires
-set-amount-requires c κs = search needs
-
-same-length : tie.Need-same-length
-same-length c = search needs
 
 returns : tie.Need-returns
 returns c =
@@ -24,4 +15,6 @@ returns-2 c =
 
 pub open-item-spec : {M : Type 1} → statement M
 open-item-spec =
-    tie.close (tie.spec code-at-requires set-amount-requires same-length returns returns-2)
+    tie.close
+    (tie.spec
+    (λ c. search needs) (λ c κs. search needs) (λ c κs. search needs) (λ c. search needs) returns returns-2)

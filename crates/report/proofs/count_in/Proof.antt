@@ -7,7 +7,7 @@ use Rattle.report.proofs.count_in.Tie as tie
 
 returns-2 : tie.Need-returns-2
 unfolding count
-returns-2 c = λ h. c .next-at .ensures
+returns-2 c = let p : tie.After-next-at = search in λ h. p .next-at .ensures
 
 pub count-in-spec : {M : Type 1} → statement M
 count-in-spec = tie.close (tie.spec (search needs) (search needs) (search needs) returns-2)

@@ -5,13 +5,14 @@ use denote.Ref.{now}
 use borrow.Author.Needs.{needs}
 use Rattle.text.specs.Puts.{Put}
 use Rattle.text.specs.Lines.{countLine}
-use Rattle.report.specs.Output.{lines, copied}
+use Rattle.report.specs.Output.{lines}
+use Rattle.report.specs.Counting.{recordsIn}
 use Rattle.text.proofs.PutsLaws.{fits-first, fits-rest, put-rest}
 use Rattle.report.proofs.put_accepted.Statement.{statement}
 use Rattle.report.proofs.put_accepted.Tie as tie
 
 put-counts-requires : tie.Need-put-counts-requires
-unfolding lines copied
+unfolding lines recordsIn
 put-counts-requires c κs = rw (c .before .copied-records .ensures) (search fits-first)
 
 -- what the first line leaves
@@ -22,13 +23,13 @@ first : (c : tie.After-put-counts) → Put 0 (countLine (start c .args .n) (star
 first c = rw (c .before .before .copied-records .ensures) at (c .put-counts .ensures)
 
 put-body-requires : tie.Need-put-body-requires
-unfolding lines copied
+unfolding lines recordsIn
 put-body-requires c κs =
     let d : tie.After-put-counts = c .before .before .before in
-    (start d .pre .0, start d .pre .1, fits-rest _ _ _ _ (start d .pre .2) (first d))
+    (start d .pre .0, start d .pre .1, fits-rest _ _ _ _ (start d .pre .2) (first d), start d .pre .3)
 
 returns : tie.Need-returns
-unfolding lines copied
+unfolding lines recordsIn
 returns c =
     let d : tie.After-put-counts = c .before .before .before .before .before .before in
     put-rest _ _ _ _ (start d .pre .2) (first d) (c .before .before .put-body .ensures)

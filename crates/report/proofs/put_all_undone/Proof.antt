@@ -26,19 +26,22 @@ loop-holds c =
 
 put-undone-in-requires : tie.Need-put-undone-in-requires Inv-loop μ-loop
 put-undone-in-requires c κs =
-    let l = c .before .before .loop in
-    let s = c .before .before .before .before .before in
+    let h : tie.At-loop Inv-loop μ-loop = search in
+    let l = h .loop in
+    let s : tie.Start Inv-loop μ-loop = search in
     (omega (arith, s .pre .0), lines-room (undoneIn (now (s .args .status))) 1 (s .args .at) (now (s .args .out)) (l .s - 1) (l .s) 1024 (omega arith) (omega arith) (s .pre .1) (l .inv .2))
 
 loop-again : tie.Need-loop-again Inv-loop μ-loop
 loop-again c =
-    let l = c .before .before .before .before .before .loop in
-    let s = c .before .before .before .before .before .before .before .before in
+    let p : tie.After-put-undone-in Inv-loop μ-loop = search in
+    let h : tie.At-loop Inv-loop μ-loop = search in
+    let l = h .loop in
+    let s : tie.Start Inv-loop μ-loop = search in
     let e : l .s + 1 - 1 ≡ suc (l .s - 1) = omega arith in (
       omega arith,
       omega arith,
-      rw e (lines-more (undoneIn (now (s .args .status))) 1 (s .args .at) (now (s .args .out)) (l .s - 1) (l .s) 1024 (omega arith) (omega arith) (s .pre .1) (l .inv .2) (c .before .before .put-undone-in .ensures)),
-      c .before .before .put-undone-in .kept .0 ∙ l .inv .3,
+      rw e (lines-more (undoneIn (now (s .args .status))) 1 (s .args .at) (now (s .args .out)) (l .s - 1) (l .s) 1024 (omega arith) (omega arith) (s .pre .1) (l .inv .2) (p .put-undone-in .ensures)),
+      p .put-undone-in .kept .0 ∙ l .inv .3,
     )
 
 same-length : tie.Need-same-length Inv-loop μ-loop

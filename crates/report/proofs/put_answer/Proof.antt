@@ -9,7 +9,7 @@ put-accepted-requires : tie.Need-put-accepted-requires
 put-accepted-requires c κs =
     let a = c .before .before .before .before .before .answer .given in
     let s = c .before .before .before .before .before .before .before .before .before in
-    (s .pre .0, s .pre .1, rw (a .1) at (s .pre .2))
+    (s .pre .0, s .pre .1, rw (a .1) at (s .pre .2), s .pre .3)
 
 put-reason-requires : tie.Need-put-reason-requires
 unfolding lines

@@ -10,6 +10,6 @@ put-body-spec =
     tie.close
     (tie.spec
     (λ c κs. (search, search fits-first))
-    (λ c κs. (search, search fits-rest))
+    (λ c κs. (search, search fits-rest, search))
     (search needs)
     (λ c. search put-rest))

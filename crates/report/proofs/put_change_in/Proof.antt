@@ -11,37 +11,45 @@ use Rattle.report.proofs.OutputLaws.{changeIn-yes, changeIn-no}
 use Rattle.report.proofs.put_change_in.Statement.{statement}
 use Rattle.report.proofs.put_change_in.Tie as tie
 
+-- the entry of the function, from the second amount
+abbrev start : tie.After-after → tie.Start
+start c = c .before .before .before .before
+
 -- both amounts fit
-fits-old : (c : tie.After-after) → SFits w32 (amountAt (now (c .before .before .before .args .old)) (c .before .before .before .args .x))
+fits-old : (c : tie.After-after) → SFits w32 (amountAt (now (start c .args .old)) (start c .args .x .0))
 fits-old c = search needs
 
-fits-new : (c : tie.After-after) → SFits w32 (amountAt (now (c .before .before .before .args .new)) (c .before .before .before .args .x))
+fits-new : (c : tie.After-after) → SFits w32 (amountAt (now (start c .args .new)) (start c .args .x .0))
 fits-new c = search needs
 
 put-change-requires : tie.Need-put-change-requires
 put-change-requires c κs =
-    let a : tie.After-after = c .before .before in
-    let s = a .before .before .before in
-    rw (amount-bits (fits-old a), amount-bits (fits-new a)) (rw (changeIn-yes (now (s .args .old)) (now (s .args .new)) (s .args .x) (c .before .if1 .left)) at (s .pre .2))
+    let e : tie.Else1 = search in
+    let a : tie.After-after = search in
+    let s = start a in
+    rw (amount-bits (fits-old a), amount-bits (fits-new a)) (rw (changeIn-yes (now (s .args .old)) (now (s .args .new)) (s .args .x .0) (e .if1 .left)) at (s .pre .2))
 
 returns : tie.Need-returns
 returns c =
-    let a : tie.After-after = c .before in
-    let s = a .before .before .before in
-    rw (changeIn-no (now (s .args .old)) (now (s .args .new)) (s .args .x) (fits-old a) (fits-new a) (c .if1 .taken)) (put-none (s .args .at) (now (s .args .out)))
+    let a : tie.After-after = search in
+    let s = start a in
+    rw (changeIn-no (now (s .args .old)) (now (s .args .new)) (s .args .x .0) (fits-old a) (fits-new a) (c .if1 .taken)) (put-none (s .args .at) (now (s .args .out)))
 
 returns-2 : tie.Need-returns-2
 returns-2 c =
-    let e : tie.Else1 = c .before .before .before .before in
-    let a : tie.After-after = e .before in
-    let s = a .before .before .before in
-    rw (changeIn-yes (now (s .args .old)) (now (s .args .new)) (s .args .x) (e .if1 .left))
-    (rw (amount-bits (fits-old a), amount-bits (fits-new a)) at (c .before .before .put-change .ensures))
+    let p : tie.After-put-change = search in
+    let e : tie.Else1 = search in
+    let a : tie.After-after = search in
+    let s = start a in
+    rw (changeIn-yes (now (s .args .old)) (now (s .args .new)) (s .args .x .0) (e .if1 .left))
+    (rw (amount-bits (fits-old a), amount-bits (fits-new a)) at (p .put-change .ensures))
 
 pub put-change-in-spec : {M : Type 1} → statement M
 put-change-in-spec =
     tie.close
     (tie.spec
+    (search needs)
+    (search needs)
     (search needs)
     (search needs)
     (search needs)

@@ -27,8 +27,9 @@ loop-holds c =
 
 put-change-in-requires : tie.Need-put-change-in-requires Inv-loop μ-loop
 put-change-in-requires c κs =
-    let l = c .before .before .loop in
-    let s = c .before .before .before .before in (
+    let h : tie.At-loop Inv-loop μ-loop = search in
+    let l = h .loop in
+    let s : tie.Start Inv-loop μ-loop = search in (
       omega arith,
       omega (arith, s .pre .0),
       lines-room (changeIn (now (s .args .old)) (now (s .args .new))) 0 (s .args .at) (now (s .args .out)) (l .x) (l .x) (length (now (s .args .old))) (omega arith) (omega arith) (s .pre .1) (l .inv .1),
@@ -36,12 +37,14 @@ put-change-in-requires c κs =
 
 loop-again : tie.Need-loop-again Inv-loop μ-loop
 loop-again c =
-    let l = c .before .before .before .before .before .loop in
-    let s = c .before .before .before .before .before .before .before in (
+    let p : tie.After-put-change-in Inv-loop μ-loop = search in
+    let h : tie.At-loop Inv-loop μ-loop = search in
+    let l = h .loop in
+    let s : tie.Start Inv-loop μ-loop = search in (
       omega arith,
       rw add-one
-          (lines-more (changeIn (now (s .args .old)) (now (s .args .new))) 0 (s .args .at) (now (s .args .out)) (l .x) (l .x) (length (now (s .args .old))) (omega arith) (omega arith) (s .pre .1) (l .inv .1) (c .before .before .put-change-in .ensures)),
-      c .before .before .put-change-in .kept .0 ∙ l .inv .2,
+          (lines-more (changeIn (now (s .args .old)) (now (s .args .new))) 0 (s .args .at) (now (s .args .out)) (l .x) (l .x) (length (now (s .args .old))) (omega arith) (omega arith) (s .pre .1) (l .inv .1) (p .put-change-in .ensures)),
+      p .put-change-in .kept .0 ∙ l .inv .2,
     )
 
 same-length : tie.Need-same-length Inv-loop μ-loop
@@ -60,6 +63,7 @@ put-changes-spec =
     Inv-loop
     μ-loop
     loop-holds
+    (λ c. omega arith)
     put-change-in-requires
     (λ c. omega arith)
     (λ c. omega arith)

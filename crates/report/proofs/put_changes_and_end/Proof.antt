@@ -9,7 +9,7 @@ pub put-changes-and-end-spec : {M : Type 1} → statement M
 put-changes-and-end-spec =
     tie.close
     (tie.spec
-    (λ c κs. (search, search fits-first))
+    (λ c κs. (search, search fits-first, search))
     (λ c κs. search fits-last)
     (search needs)
     (λ c. search put-last))

@@ -1,8 +1,7 @@
 -- `report::read_of` meets its contract: a file of under 64,020 bytes is read whole.
 -- Assumes nothing.
 use native.Mathlib.Omega.{arith}
-use denote.Ref.{now}
-use Rattle.report.proofs.PrintedLaws.{readOf-short, readOf-long}
+use Rattle.report.proofs.PrintedLaws.{readOf-short, readPart-long}
 use Rattle.report.proofs.read_of.Statement.{statement}
 use Rattle.report.proofs.read_of.Tie as tie
 
@@ -10,7 +9,7 @@ returns : tie.Need-returns
 returns c = (omega arith, omega arith, readOf-short _ (omega arith))
 
 returns-2 : tie.Need-returns-2
-returns-2 c = (omega arith, omega arith, readOf-long _)
+returns-2 c = (omega arith, omega arith, readPart-long _)
 
 pub read-of-spec : {M : Type 1} → statement M
 read-of-spec = tie.close (tie.spec returns returns-2)

@@ -4,11 +4,11 @@ use mathlib.Core.Path.{_≡_, refl, sym, ap, _∙_}
 use Prim.Native.Nat.{_-_}
 use native.Mathlib.Omega.{arith}
 use denote.Ref.{now}
-use lib.ListN.{take}
+use lib.ListN.{length, take}
 use borrow.Author.Needs.{needs}
 use Rattle.report.specs.Output.{amounts, transactions}
 use Rattle.report.proofs.OutputLaws.{length-amounts, length-transactions}
-use Rattle.report.proofs.TakenLaws.{front, printed, length-printed}
+use Rattle.report.proofs.ReportLaws.{front, put-front, report-printed, reports-files, length-reported}
 use Rattle.report.proofs.report.Statement.{statement}
 use Rattle.report.proofs.report.Tie as tie
 
@@ -38,7 +38,7 @@ report-on-requires c κs =
     let r : tie.After-read-transactions = c .before .before .before .before .before .before .before .before .before in
     let n : tie.After-read-amounts2 = r .before .before .before in
     let o : tie.After-read-amounts = n .before .before .before in
-    (new-is n ∙ sym (old-is o), refl, start o .pre .2)
+    (new-is n ∙ sym (old-is o), refl, start o .pre .2, omega (arith, ap length (old-is o), length-amounts (now (start o .args .table)), start o .pre .0))
 
 returns : tie.Need-returns
 returns c =
@@ -46,8 +46,9 @@ returns c =
     let r : tie.After-read-transactions = p .before .before .before .before .before .before .before .before .before .before in
     let o : tie.After-read-amounts = r .before .before .before .before .before .before in
     let a = start o .args in
-    let text = printed (now (a .journal)) (now (a .table)) (now (a .bad)) (old-is o) (bad-is r) (p .report-on .ensures) in
-    (omega (arith, text .size, length-printed (now (a .journal)) (now (a .table)) (now (a .bad))), text)
+    let text = report-printed (now (a .journal)) (now (a .table)) (now (a .bad)) (old-is o) (bad-is r) (p .report-on .ensures .0) in
+    let reports = reports-files (now (a .journal)) (now (a .table)) (now (a .bad)) (old-is o) (bad-is r) (p .report-on .ensures .1) in
+    (omega (arith, text .size, ap length (put-front text), length-reported reports), (text, reports))
 
 pub report-spec : {M : Type 1} → statement M
 report-spec =

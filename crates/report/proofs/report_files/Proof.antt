@@ -4,12 +4,12 @@ use mathlib.Core.Path.{refl}
 use native.Mathlib.Omega.{arith}
 use denote.Ref.{now}
 use borrow.Author.Needs.{needs}
-use Rattle.report.proofs.PrintedLaws.{readOf-part, filesReport-put}
+use Rattle.report.proofs.PrintedLaws.{readOf-part, filesReport-put, filesReport-reports}
 use Rattle.report.proofs.report_files.Statement.{statement}
 use Rattle.report.proofs.report_files.Tie as tie
 
 returns : tie.Need-returns
-returns c = (tt, (omega arith, refl))
+returns c = (tt, ((omega arith, refl), tt))
 
 returns-2 : tie.Need-returns-2
 returns-2 c =
@@ -18,8 +18,13 @@ returns-2 c =
     let a = r3 .before .before .before .before .before .before .before .before .args in
     let j = readOf-part (r3 .before .before .read-of .result) (now (a .journal)) (r3 .before .before .read-of .ensures .2) in
     let t = readOf-part (r3 .before .read-of2 .result) (now (a .table)) (r3 .before .read-of2 .ensures .2) in
-    let b = readOf-part (r3 .read-of3 .result) (now (a .bad)) (r3 .read-of3 .ensures .2) in
-    (omega arith, (omega arith, filesReport-put (now (a .journal)) (now (a .table)) (now (a .bad)) j t b (r .report .ensures .1)))
+    let b = readOf-part (r3 .read-of3 .result) (now (a .bad)) (r3 .read-of3 .ensures .2) in (
+      omega arith,
+      (
+        (omega arith, filesReport-put (now (a .journal)) (now (a .table)) (now (a .bad)) j t b (r .report .ensures .1 .0)),
+        filesReport-reports (now (a .journal)) (now (a .table)) (now (a .bad)) j t b (r .report .ensures .1 .1),
+      ),
+    )
 
 pub report-files-spec : {M : Type 1} → statement M
 report-files-spec =

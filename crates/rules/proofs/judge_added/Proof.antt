@@ -1,17 +1,17 @@
 -- `rules::judge_added` meets its contract.
 -- Assumes nothing.
-use Rattle.rules.proofs.RuleLaws.{tx-in, rule-closed, rule-end}
+use Rattle.rules.proofs.RuleLaws.{tx-in, rule-terminated, rule-end}
 use borrow.Author.Needs.{needs}
 use Rattle.rules.proofs.judge_added.Statement.{statement}
 use Rattle.rules.proofs.judge_added.Tie as tie
 
-shared-slice-read-if1 : tie.Need-shared-slice-read-if1
-shared-slice-read-if1 c =
+end-at-requires : tie.Need-end-at-requires
+end-at-requires c κs =
     search tx-in
 
 returns : tie.Need-returns
 returns c =
-    search rule-closed
+    search rule-terminated
 
 returns-4 : tie.Need-returns-4
 returns-4 c =
@@ -21,5 +21,5 @@ pub judge-added-spec : {M : Type 1} → statement M
 judge-added-spec =
     tie.close
     (tie.spec
-    (λ c. search needs) (λ c. search needs) (λ c. search needs) shared-slice-read-if1 returns
+    (λ c. search needs) end-at-requires returns
     (λ c κs. search needs) (λ c κs. search needs) (λ c. search needs) (λ c. search needs) returns-4)

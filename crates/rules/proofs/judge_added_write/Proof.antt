@@ -1,6 +1,6 @@
 -- `rules::judge_added_write` meets its contract.
 -- Assumes nothing.
-use Rattle.rules.proofs.RuleLaws.{item-write, write-crossed, write-blind, write-matched}
+use Rattle.rules.proofs.RuleLaws.{item-write, write-conflict, write-blind, write-matched}
 use borrow.Author.Needs.{needs}
 use Rattle.rules.proofs.judge_added_write.Statement.{statement}
 use Rattle.rules.proofs.judge_added_write.Tie as tie
@@ -15,7 +15,7 @@ readers-requires c κs =
 
 returns : tie.Need-returns
 returns c =
-    search write-crossed
+    search write-conflict
 
 returns-2 : tie.Need-returns-2
 returns-2 c =
@@ -29,4 +29,4 @@ pub judge-added-write-spec : {M : Type 1} → statement M
 judge-added-write-spec =
     tie.close
     (tie.spec
-    (λ c. search needs) (λ c. search needs) (λ c. search needs) (λ c. search needs) last-writer-requires readers-requires returns returns-2 returns-3)
+    (λ c. search needs) last-writer-requires readers-requires returns returns-2 returns-3)

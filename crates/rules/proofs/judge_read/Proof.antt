@@ -1,6 +1,6 @@
 -- `rules::judge_read` meets its contract.
 -- Assumes nothing.
-use Rattle.rules.proofs.RuleLaws.{item-read, read-crossed, read-passed}
+use Rattle.rules.proofs.RuleLaws.{item-read, read-conflict, read-passed}
 use borrow.Author.Needs.{needs}
 use Rattle.rules.proofs.judge_read.Statement.{statement}
 use Rattle.rules.proofs.judge_read.Tie as tie
@@ -11,7 +11,7 @@ last-writer-requires c κs =
 
 returns : tie.Need-returns
 returns c =
-    search read-crossed
+    search read-conflict
 
 returns-2 : tie.Need-returns-2
 returns-2 c =
@@ -21,4 +21,4 @@ pub judge-read-spec : {M : Type 1} → statement M
 judge-read-spec =
     tie.close
     (tie.spec
-    (λ c. search needs) (λ c. search needs) (λ c. search needs) (λ c. search needs) last-writer-requires returns returns-2)
+    (λ c. search needs) last-writer-requires returns returns-2)

@@ -1,13 +1,9 @@
 -- `rules::judge_write` meets its contract.
 -- Assumes nothing.
-use Rattle.rules.proofs.RuleLaws.{item-write, write-crossed, write-blind, write-right, write-wrong}
+use Rattle.rules.proofs.RuleLaws.{item-write, write-conflict, write-blind, write-right, write-wrong}
 use borrow.Author.Needs.{needs}
 use Rattle.rules.proofs.judge_write.Statement.{statement}
 use Rattle.rules.proofs.judge_write.Tie as tie
-
--- the entry of the function, from rule 9
-abbrev entry : tie.After-matches-standing → tie.Start
-entry m = m .before .before .before .before .before .before .before .before .before .before .before .before .before
 
 last-writer-requires : tie.Need-last-writer-requires
 last-writer-requires c κs =
@@ -19,7 +15,7 @@ readers-requires c κs =
 
 returns : tie.Need-returns
 returns c =
-    search write-crossed
+    search write-conflict
 
 matches-standing-requires : tie.Need-matches-standing-requires
 matches-standing-requires c κs =
@@ -27,12 +23,14 @@ matches-standing-requires c κs =
 
 returns-2 : tie.Need-returns-2
 returns-2 c =
-    let p = entry (c .before) .pre in
+    let a : tie.Start = search in
+    let p = a .pre in
     search (write-right, p)
 
 returns-3 : tie.Need-returns-3
 returns-3 c =
-    let p = entry (c .before) .pre in
+    let a : tie.Start = search in
+    let p = a .pre in
     search (write-wrong, p)
 
 returns-4 : tie.Need-returns-4
@@ -43,5 +41,5 @@ pub judge-write-spec : {M : Type 1} → statement M
 judge-write-spec =
     tie.close
     (tie.spec
-    (λ c. search needs) (λ c. search needs) (λ c. search needs) (λ c. search needs) last-writer-requires readers-requires returns
+    (λ c. search needs) last-writer-requires readers-requires returns
     matches-standing-requires returns-2 returns-3 returns-4)

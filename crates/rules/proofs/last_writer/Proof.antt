@@ -1,12 +1,11 @@
 -- `rules::last_writer` meets its contract.
 -- Assumes nothing.
 use Rattle.rules.proofs.ReadersLaws.{writes-in, last-long, last-range, last-nobody, last-looked}
-use borrow.Author.Needs.{needs}
 use Rattle.rules.proofs.last_writer.Statement.{statement}
 use Rattle.rules.proofs.last_writer.Tie as tie
 
-at-requires : tie.Need-at-requires
-at-requires c κs =
+lsn-at-requires : tie.Need-lsn-at-requires
+lsn-at-requires c κs =
     search writes-in
 
 returns : tie.Need-returns
@@ -27,4 +26,4 @@ returns-2 c =
 
 pub last-writer-spec : {M : Type 1} → statement M
 last-writer-spec =
-    tie.close (tie.spec at-requires returns transaction-at-requires (λ c. search needs) look-requires returns-2)
+    tie.close (tie.spec lsn-at-requires returns transaction-at-requires look-requires returns-2)

@@ -6,8 +6,8 @@ use borrow.Author.Needs.{needs}
 use Rattle.rules.proofs.matches_standing.Statement.{statement}
 use Rattle.rules.proofs.matches_standing.Tie as tie
 
-at-requires : tie.Need-at-requires
-at-requires c κs =
+lsn-at-requires : tie.Need-lsn-at-requires
+lsn-at-requires c κs =
     search writes-in
 
 returns : tie.Need-returns
@@ -20,4 +20,4 @@ returns-2 c =
 
 pub matches-standing-spec : {M : Type 1} → statement M
 matches-standing-spec =
-    tie.close (tie.spec (λ c. search needs) at-requires returns (λ c κs. search needs) (λ c κs. search needs) returns-2)
+    tie.close (tie.spec lsn-at-requires returns (λ c κs. search needs) (λ c κs. search needs) returns-2)

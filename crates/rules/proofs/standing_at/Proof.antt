@@ -6,20 +6,20 @@ use borrow.Author.Needs.{needs}
 use Rattle.rules.proofs.standing_at.Statement.{statement}
 use Rattle.rules.proofs.standing_at.Tie as tie
 
-at-requires : tie.Need-at-requires
-at-requires c κs =
+lsn-at-requires : tie.Need-lsn-at-requires
+lsn-at-requires c κs =
     search writes-in
 
 transaction-at-requires : tie.Need-transaction-at-requires
 transaction-at-requires c κs =
     search last-long
 
-shared-slice-read-if1 : tie.Need-shared-slice-read-if1
-shared-slice-read-if1 c =
+end-at-requires : tie.Need-end-at-requires
+end-at-requires c κs =
     search last-ends
 
-at-requires-2 : tie.Need-at-requires-2
-at-requires-2 c κs =
+lsn-at-requires-2 : tie.Need-lsn-at-requires-2
+lsn-at-requires-2 c κs =
     search bases-in
 
 record-at-requires : tie.Need-record-at-requires
@@ -32,7 +32,9 @@ record-at-requires-2 c κs =
 
 returns : tie.Need-returns
 returns c =
-    search (standing-before, needs)
+    let a : tie.Start = search in
+    let p = a .pre in
+    search (standing-before, needs, p)
 
 returns-2 : tie.Need-returns-2
 returns-2 c =
@@ -42,5 +44,4 @@ pub standing-at-spec : {M : Type 1} → statement M
 standing-at-spec =
     tie.close
     (tie.spec
-    at-requires transaction-at-requires
-    (λ c. search needs) shared-slice-read-if1 at-requires-2 record-at-requires record-at-requires-2 returns returns-2)
+    lsn-at-requires transaction-at-requires end-at-requires lsn-at-requires-2 record-at-requires record-at-requires-2 returns returns-2)

@@ -21,24 +21,6 @@ loop-holds : tie.Need-loop-holds Inv-loop μ-loop
 loop-holds c =
     (omega arith, search partly-start)
 
-code-at-requires : tie.Need-code-at-requires Inv-loop μ-loop
-code-at-requires c κs = search needs
-
-code-at-requires-2 : tie.Need-code-at-requires-2 Inv-loop μ-loop
-code-at-requires-2 c κs = search needs
-
-fate-requires : tie.Need-fate-requires Inv-loop μ-loop
-fate-requires c κs = search needs
-
-array-write-all : tie.Need-array-write-all Inv-loop μ-loop
-array-write-all c = search needs
-
-add-s : tie.Need-add-s Inv-loop μ-loop
-add-s c = omega arith
-
-loop-less : tie.Need-loop-less Inv-loop μ-loop
-loop-less c = omega arith
-
 loop-again : tie.Need-loop-again Inv-loop μ-loop
 loop-again c =
     (omega arith, search fates-step)
@@ -51,14 +33,6 @@ pub fates-spec : {M : Type 1} → statement M
 fates-spec =
     tie.close
     (tie.spec
-    Inv-loop
-    μ-loop
-    loop-holds
-    code-at-requires
-    code-at-requires-2
-    fate-requires
-    array-write-all
-    add-s
-    loop-less
-    loop-again
-    returns)
+    Inv-loop μ-loop loop-holds
+    (λ c κs. search needs) (λ c κs. search needs) (λ c. search needs) (λ c κs. search needs) (λ c. search needs)
+    (λ c. omega arith) (λ c. omega arith) loop-again returns)

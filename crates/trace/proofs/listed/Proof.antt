@@ -23,27 +23,9 @@ loop-holds : tie.Need-loop-holds Inv-loop μ-loop
 loop-holds c =
     (omega arith, search listed-start)
 
-sub-k : tie.Need-sub-k Inv-loop μ-loop
-sub-k c = omega arith
-
-mul-wide : tie.Need-mul-wide Inv-loop μ-loop
-mul-wide c = search needs
-
-shared-slice-read-wide : tie.Need-shared-slice-read-wide Inv-loop μ-loop
-shared-slice-read-wide c = search needs
-
-wide-requires : tie.Need-wide-requires Inv-loop μ-loop
-wide-requires c κs = search needs
-
-slice-aggregate-set-code : tie.Need-slice-aggregate-set-code Inv-loop μ-loop
-slice-aggregate-set-code c =
+slice-aggregate-set-code-of : tie.Need-slice-aggregate-set-code-of Inv-loop μ-loop
+slice-aggregate-set-code-of c =
     search flags-count
-
-set-code-requires : tie.Need-set-code-requires Inv-loop μ-loop
-set-code-requires c κs = search needs
-
-loop-less : tie.Need-loop-less Inv-loop μ-loop
-loop-less c = omega arith
 
 loop-again : tie.Need-loop-again Inv-loop μ-loop
 loop-again c =
@@ -57,15 +39,6 @@ pub listed-spec : {M : Type 1} → statement M
 listed-spec =
     tie.close
     (tie.spec
-    Inv-loop
-    μ-loop
-    loop-holds
-    sub-k
-    mul-wide
-    shared-slice-read-wide
-    wide-requires
-    slice-aggregate-set-code
-    set-code-requires
-    loop-less
-    loop-again
-    returns)
+    Inv-loop μ-loop loop-holds
+    (λ c. omega arith) (λ c. search needs) (λ c. search needs) slice-aggregate-set-code-of
+    (λ c κs. search needs) (λ c. omega arith) loop-again returns)

@@ -1,4 +1,4 @@
--- `trace::trace` meets its contract: the pass begins with the flags of the list and no feeder.
+-- `trace::trace` meets its contract: the pass begins with the flags of the list and no source.
 -- Assumes nothing.
 use borrow.Author.Needs.{needs}
 use Rattle.trace.proofs.TraceLaws.{flags-count, trace-done}

@@ -1,4 +1,4 @@
--- `trace::trace_records` meets its contract: after i records feeders and flags are what they leave.
+-- `trace::trace_records` meets its contract: after i records sources and flags are what they leave.
 -- Assumes nothing.
 use Prim.Native.Nat.{_≤_, _-_}
 use lib.ListN.{length}
@@ -6,22 +6,22 @@ use mathlib.Core.Path.{_≡_, refl}
 use native.Mathlib.Omega.{arith}
 use borrow.Author.Needs.{needs}
 use Rattle.journal.specs.Journal.{history}
-use Rattle.trace.proofs.TraceLaws.{feeders-first, flags-first, feeders-step, flags-step, feeders-done, flags-done}
-use Rattle.trace.specs.Trace.{feedersFrom, flagsFrom}
+use Rattle.trace.proofs.TraceLaws.{sources-first, flags-first, sources-step, flags-step, sources-done, flags-done}
+use Rattle.trace.specs.Trace.{sourcesFrom, flagsFrom}
 use Rattle.trace.proofs.trace_records.Statement.{statement}
 use Rattle.trace.proofs.trace_records.Tie as tie
 
 abbrev Inv-loop : tie.InvT-loop
-Inv-loop journal n ends feeders₀ flags₀ i₀ feeders flags i =
-    (i ≤ n) × (feeders ≡ feedersFrom ends (history journal i) feeders₀) × (flags ≡ flagsFrom ends (history journal i) feeders₀ flags₀) × (length feeders ≡ length feeders₀) × (length flags ≡ length flags₀)
+Inv-loop journal n ends sources₀ flags₀ i₀ sources flags i =
+    (i ≤ n) × (sources ≡ sourcesFrom ends (history journal i) sources₀) × (flags ≡ flagsFrom ends (history journal i) sources₀ flags₀) × (length sources ≡ length sources₀) × (length flags ≡ length flags₀)
 
 abbrev μ-loop : tie.MeasureT-loop
-μ-loop journal n ends feeders₀ flags₀ i₀ feeders flags i =
+μ-loop journal n ends sources₀ flags₀ i₀ sources flags i =
     n - i
 
 loop-holds : tie.Need-loop-holds Inv-loop μ-loop
 loop-holds c =
-    (omega arith, search feeders-first, search flags-first, refl, refl)
+    (omega arith, search sources-first, search flags-first, refl, refl)
 
 trace-record-requires : tie.Need-trace-record-requires Inv-loop μ-loop
 trace-record-requires c κs =
@@ -35,7 +35,7 @@ loop-less c = omega arith
 
 loop-again : tie.Need-loop-again Inv-loop μ-loop
 loop-again c =
-    (omega arith, search feeders-step, search flags-step, search needs, search needs)
+    (omega arith, search sources-step, search flags-step, search needs, search needs)
 
 same-length : tie.Need-same-length Inv-loop μ-loop
 same-length c = search needs
@@ -45,7 +45,7 @@ same-length-2 c = search needs
 
 returns : tie.Need-returns Inv-loop μ-loop
 returns c =
-    (search feeders-done, search flags-done)
+    (search sources-done, search flags-done)
 
 pub trace-records-spec : {M : Type 1} → statement M
 trace-records-spec =

@@ -42,9 +42,6 @@ returns-2 c =
     let s = c .before .before .before .before .before .before .before .before .before .before .before .before .before .before in
     result-head (now (s .args .journal)) (now (s .args .table)) (now (s .args .bad)) (now (s .args .status)) (now (s .args .out)) (c .before .before .before .before .before .before .before .examine .result) _ (c .before .before .before .before .before .before .before .examine .ensures .0) (c .before .before .before .before .head2 .given .1 ∙ c .before .head3 .given .1)
 
-cast-undo-examined : tie.Need-cast-undo-examined
-cast-undo-examined c = search needs
-
 slice-aggregate-undo-examined : tie.Need-slice-aggregate-undo-examined
 slice-aggregate-undo-examined c = search needs
 
@@ -78,7 +75,6 @@ undo-spec =
     returns
     same-length-2
     returns-2
-    cast-undo-examined
     slice-aggregate-undo-examined
     undo-examined-requires
     same-length-3

@@ -1,6 +1,6 @@
 -- `validate::active_count` meets its contract. The loop: the transactions below s that are active are counted.
 -- Assumes nothing.
-use Rattle.lists.specs.Tables.{number}
+use Rattle.lists.specs.Tables.{countIf}
 use Rattle.validate.specs.Answers.{activeIn}
 use denote.Ref.{now}
 use native.Mathlib.Omega.{arith}
@@ -12,7 +12,7 @@ use Rattle.validate.proofs.active_count.Statement.{statement}
 use Rattle.validate.proofs.active_count.Tie as tie
 
 abbrev Inv-loop : tie.InvT-loop
-Inv-loop ends firsts count₀ s₀ count s = (1 ≤ s) × (s ≤ 1025) × (count ≡ number (activeIn ends firsts) 1 (s - 1)) × (count < s)
+Inv-loop ends firsts count₀ s₀ count s = (1 ≤ s) × (s ≤ 1025) × (count ≡ countIf (activeIn ends firsts) 1 (s - 1)) × (count < s)
 
 abbrev μ-loop : tie.MeasureT-loop
 μ-loop ends firsts count₀ s₀ count s = 1025 - s

@@ -9,7 +9,7 @@ use Rattle.validate.proofs.broken_link.Statement.{statement}
 use Rattle.validate.proofs.broken_link.Tie as tie
 
 abbrev Inv-loop : tie.InvT-loop
-Inv-loop journal n slots₀ low₀ i₀ slots low i = (i ≤ n) × (slots ≡ nextsOf journal i) × (low ≡ lowestBroken journal (i + 1) (n - i))
+Inv-loop journal n slots₀ low₀ i₀ slots low i = (i ≤ n) × (slots ≡ nextsOf journal i) × (low .0 ≡ lowestBroken journal (i + 1) (n - i))
 
 abbrev μ-loop : tie.MeasureT-loop
 μ-loop journal n slots₀ low₀ i₀ slots low i = i

@@ -25,5 +25,4 @@ pub check-record-spec : {M : Type 1} → statement M
 check-record-spec =
     tie.close
     (tie.spec
-    (λ c. search needs) (λ c κs. search needs) (λ c. search needs) judge-requires
-    (λ c. search needs) returns returns-2 returns-3)
+    (λ c. search needs) (λ c κs. search needs) judge-requires returns returns-2 returns-3)

@@ -1,6 +1,6 @@
 -- `validate::final_state` meets its contract. The loop: no item below x is refused, so what is left decides.
 -- Assumes nothing.
-use Rattle.journal.specs.Inputs.{lent}
+use Rattle.journal.specs.Inputs.{inputsOf}
 use Rattle.journal.specs.Orders.{tryEach, settledOrder, decide}
 use Rattle.journal.specs.Refusals.{unsettled}
 use Rattle.journal.proofs.OrdersLaws.{tried-done}
@@ -13,10 +13,10 @@ use Rattle.validate.proofs.final_state.Statement.{statement}
 use Rattle.validate.proofs.final_state.Tie as tie
 
 abbrev Inv-loop : tie.InvT-loop
-Inv-loop journal n table ends writes bases x₀ x = (x ≤ length table) × (decide (settledOrder (lent journal table)) ≡ decide (tryEach 10 (unsettled journal table) x (length table - x)))
+Inv-loop journal n table ends writes bases keys x₀ x = (x ≤ length table) × (decide (settledOrder (inputsOf journal table)) ≡ decide (tryEach 10 (unsettled journal table) x (length table - x)))
 
 abbrev μ-loop : tie.MeasureT-loop
-μ-loop journal n table ends writes bases x₀ x = length table - x
+μ-loop journal n table ends writes bases keys x₀ x = length table - x
 
 loop-holds : tie.Need-loop-holds Inv-loop μ-loop
 loop-holds c =
@@ -42,6 +42,6 @@ pub final-state-spec : {M : Type 1} → statement M
 final-state-spec =
     tie.close
     (tie.spec
-    Inv-loop μ-loop loop-holds settled-requires
-    (λ c. omega arith) (λ c. omega arith) loop-again
-    (λ c. omega arith) returns returns-2)
+    Inv-loop μ-loop
+    (λ c. omega arith) loop-holds settled-requires
+    (λ c. omega arith) (λ c. omega arith) loop-again returns returns-2)

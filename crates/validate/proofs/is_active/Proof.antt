@@ -15,4 +15,4 @@ returns-2 c =
 
 pub is-active-spec : {M : Type 1} → statement M
 is-active-spec =
-    tie.close (tie.spec (λ c. search needs) (λ c. search needs) (λ c. search needs) returns returns-2)
+    tie.close (tie.spec (λ c κs. search needs) (λ c κs. search needs) returns returns-2)

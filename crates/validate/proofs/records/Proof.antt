@@ -1,7 +1,7 @@
 -- `validate::records` meets its contract. The loop: the first i records passed, the arrays are those after them, and what is left decides.
 -- Assumes nothing.
 use Rattle.validate.specs.Chain.{lowestBroken}
-use Rattle.validate.proofs.Pass.{done-state, ready-at, sighted-at, none-passed, all-left, verdict-refused, verdict-passed, passed-more, formed-more, not-passed, none-left, Lengths, same-lengths}
+use Rattle.validate.proofs.Pass.{done-state, ready-at, noBlind-at, none-passed, all-left, verdict-refused, verdict-passed, passed-more, formed-more, not-passed, none-left, Lengths, same-lengths}
 use denote.Ref.{now}
 use borrow.Author.Needs.{needs}
 use native.Mathlib.Omega.{arith}
@@ -48,7 +48,7 @@ check-record-requires c κs =
     let l = t .before .loop in
     let o = a .pre .0 in
     let s = l .inv .3 in
-    (ready-at b (a .args .n) (a .args .keys) (l .i) o (l .inv .1) (l .inv .0), s .ended, s .written, s .based, s .sighted, s .linked, o .keys, w .broken-link .ensures ∙ ap (lowestBroken b 1) (o .counted), omega (arith, o .counted, t .loop-test .taken), r .record-at .ensures, sighted-at b (a .args .n) (a .args .keys) (l .i) o (l .inv .1))
+    (ready-at b (a .args .n) (a .args .keys) (l .i) o (l .inv .1) (l .inv .0), s .ended, s .written, s .based, s .lastRead, s .linked, o .keys, w .broken-link .ensures ∙ ap (lowestBroken b 1) (o .counted), omega (arith, o .counted, t .loop-test .taken), r .record-at .ensures, noBlind-at b (a .args .n) (a .args .keys) (l .i) o (l .inv .1))
 
 returns : tie.Need-returns Inv-loop μ-loop
 returns c =

@@ -6,8 +6,8 @@ use borrow.Author.Needs.{needs}
 use Rattle.validate.proofs.settled.Statement.{statement}
 use Rattle.validate.proofs.settled.Tie as tie
 
-at-requires : tie.Need-at-requires
-at-requires c κs =
+lsn-at-requires : tie.Need-lsn-at-requires
+lsn-at-requires c κs =
     search writes-in
 
 returns : tie.Need-returns
@@ -20,4 +20,7 @@ returns-2 c =
 
 pub settled-spec : {M : Type 1} → statement M
 settled-spec =
-    tie.close (tie.spec at-requires returns (λ c κs. search needs) (λ c. search needs) (λ c. search needs) (λ c κs. search needs) returns-2)
+    tie.close
+    (tie.spec
+    lsn-at-requires returns
+    (λ c κs. search needs) (λ c. search needs) (λ c. search needs) (λ c. search needs) (λ c κs. search needs) returns-2)

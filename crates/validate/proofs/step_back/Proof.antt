@@ -29,8 +29,8 @@ pub step-back-spec : {M : Type 1} → statement M
 step-back-spec =
     tie.close
     (tie.spec
-    (λ c. search needs) (λ c κs. search needs) (λ c. search needs) (λ c κs. search needs) returns
-    (λ c. search needs) slice-read-later
-    (λ c. search needs) (λ c. search needs) slice-write-slots
+    (λ c. search needs) (λ c κs. search needs) (λ c κs. search needs) returns
+    (λ c. search needs) (λ c. search needs) slice-read-later
+    (λ c. search needs) slice-write-slots
     (λ c. search needs) returns-2
     (λ c. search needs) returns-3)

@@ -1,7 +1,7 @@
 //! What a call does not write, and what it does not read.
 
 use super::history::whole_length;
-use crate::compare::{answers, Answers, Implementation};
+use crate::compare::{answers, Answers, Implementation, UNCOUNTED};
 use crate::days::{day, Day};
 use crate::format::{Record, MAX_RECORDS, RECORD_BYTES};
 
@@ -27,6 +27,10 @@ pub fn refused_calls_write_nothing(day: &Day, answers: &Answers) -> u64 {
         assert_eq!(answers.undo.table, day.table);
         assert_eq!(answers.undo.status, day.status);
         assert_eq!(answers.undo.out, day.out);
+    }
+    if answers.count.answer.is_err() {
+        refused += 1;
+        assert_eq!(answers.count.counts, UNCOUNTED);
     }
     refused
 }
@@ -59,8 +63,14 @@ pub fn bytes_behind_the_last_record_do_not_matter(calls: &impl Implementation, s
     day.journal.truncate(end);
     let cut = answers(calls, &day);
     assert_eq!(
-        (cut.check, &cut.chain, &cut.undo, &cut.report),
-        (first.check, &first.chain, &first.undo, &first.report)
+        (cut.check, &cut.chain, &cut.undo, cut.count, &cut.report),
+        (
+            first.check,
+            &first.chain,
+            &first.undo,
+            first.count,
+            &first.report
+        )
     );
     1
 }

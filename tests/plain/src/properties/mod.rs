@@ -1,6 +1,7 @@
 //! What document 01 says of all days, as properties of an implementation. Each is tried on the
 //! inputs of one seed; it panics where it does not hold, and answers how many cases it tried.
 
+pub mod counting;
 pub mod cutting;
 pub mod history;
 pub mod loans;
@@ -18,7 +19,7 @@ struct Property<I> {
     holds: fn(&I, u64) -> u64,
 }
 
-fn all<I: Implementation>() -> [Property<I>; 10] {
+fn all<I: Implementation>() -> [Property<I>; 12] {
     let property = |name, seeds, cases, holds| Property {
         name,
         seeds,
@@ -49,6 +50,18 @@ fn all<I: Implementation>() -> [Property<I>; 10] {
             2_000,
             2_000,
             posting::chains_are_the_records_of_a_transaction,
+        ),
+        property(
+            "counts are those of the kinds",
+            6_000,
+            6_000,
+            counting::counts_are_those_of_the_kinds,
+        ),
+        property(
+            "posting goes on after a take-back",
+            1_000,
+            1_000,
+            counting::posting_goes_on_after_a_take_back,
         ),
         property(
             "which lists undo accepts",

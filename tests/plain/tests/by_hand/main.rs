@@ -2,6 +2,7 @@
 
 mod boundaries;
 mod common;
+mod counting;
 mod cutting;
 mod example;
 mod limits;
