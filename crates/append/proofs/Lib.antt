@@ -1,5 +1,2 @@
-pub mod Tables
-pub mod Agreeing
-pub mod Extending
-pub mod Judging
+pub mod Planning
 pub mod Results

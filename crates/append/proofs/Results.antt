@@ -27,13 +27,14 @@ use Rattle.journal.proofs.Unrefused.{room, count-bound, table-length}
 use Rattle.journal.proofs.Appending.{clear-appended}
 use Rattle.validate.proofs.Whole.{checked-ready}
 use Rattle.counts.specs.declared.Counts.{Counts}
-use Rattle.append.specs.declared.Plan.{Plan}
-use Rattle.append.specs.declared.Plan.the-variants as plan
+use Rattle.entry.specs.declared.Plan.{Plan}
+use Rattle.entry.specs.declared.Plan.the-variants as plan
 use Rattle.append.specs.declared.Outcome.the-variants as outcome
 use Rattle.counts.specs.Answers.{recordCountsOf}
-use Rattle.append.specs.Answers.{planOf, Appends}
-use Rattle.append.specs.Entries.{FromTable, Admitted}
-use Rattle.append.proofs.Agreeing.{agreed-few}
+use Rattle.extend.specs.Entering.{Admitted}
+use Rattle.entry.specs.Answers.{planOf}
+use Rattle.entry.proofs.Agreeing.{agreed-few}
+use Rattle.append.specs.Answers.{FromTable, Appends}
 use Rattle.journal.proofs.Answered.{accepted-only, refused-only}
 
 -- ---- the new record
@@ -89,11 +90,11 @@ module _ (b : List ℕ) (t : List Amount) (kind s x : ℕ) (a : Amount) (c : Cou
 
     pub append-admitted : Admitted b t c n r
     append-admitted =
-        let (k, w, f) = clear-appended b t (recordCountsOf c) r (decide-clear _ (passes .0)) in
+        let (k, w, f) = clear-appended (inputsOf b t) (recordCountsOf c) r (decide-clear _ (passes .0)) in
         let m = room b (f .room) in
         rw (passes .1)
         (record {
-          ready = checked-ready b t (clear-decide (checks-clear b t k));
+          ready = checked-ready b t (clear-decide (checks-clear (inputsOf b t) k));
           counted = refl;
           table = table-length b t (k .table);
           formed = f .formed;

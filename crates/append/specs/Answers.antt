@@ -3,24 +3,24 @@
 use mathlib.Core.Path.{_≡_}
 use mathlib.Core.List.{List}
 use Prim.Native.Nat.{ℕ}
+use Rattle.format.specs.declared.Record.{Record}
 use Rattle.model.specs.History.{Amount}
 use Rattle.journal.specs.Inputs.{Inputs}
+use Rattle.journal.specs.Journal.{amountAt}
 use Rattle.journal.specs.Calls.{Answer, refused, accepted, append}
 use Rattle.journal.specs.Reasons.{numberOf, placeOf}
 use Rattle.counts.specs.declared.Counts.{Counts}
 use Rattle.counts.specs.Answers.{recordCountsOf}
 use Rattle.append.specs.declared.Outcome.{Outcome}
 use Rattle.append.specs.declared.Outcome.the-variants as outcome
-use Rattle.append.specs.declared.Plan.{Plan}
-use Rattle.append.specs.declared.Plan.the-variants as plan
 
 abbrev pub answerOf : Outcome → Answer (Unit {0})
 answerOf outcome.Done = accepted tt
 answerOf (outcome.Refused why) = refused (numberOf why) (placeOf why)
 
-abbrev pub planOf : Plan → Answer ℕ
-planOf (plan.Enter n) = accepted n
-planOf (plan.Refused why) = refused (numberOf why) (placeOf why)
+-- a write's before comes from the table
+abbrev pub FromTable : List Amount → Record → Type 0
+FromTable t r = r .kind ≡ 2 → r .before ≡ amountAt t (r .item .0)
 
 -- the answer, the counts, the journal and the table that append leaves
 pub record Appends (c : Counts) (d : Inputs) (kind s x : ℕ) (a : Amount) (r : Outcome) (c′ : Counts) (b′ : List ℕ)

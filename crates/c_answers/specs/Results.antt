@@ -1,7 +1,10 @@
 -- What the C interface hands over of an answer: the refusal's number, 0 if the call is accepted, and the place or the value
--- answered.
+-- answered; and record counts as it has them.
 -- Assumes nothing.
+use mathlib.Core.List.{List, [], _∷_}
 use Prim.Native.Nat.{ℕ, zero, suc}
+use lib.ListN.{getD}
+use Rattle.journal.specs.Refusals.{RecordCounts}
 use Rattle.journal.specs.Calls.{Answer, refused, accepted}
 
 -- the result: the refusal's number, 0 if accepted
@@ -23,3 +26,11 @@ loanWith f old (accepted a) = f a
 abbrev pub answerIn : {A : Type 0} → (ℕ → A) → ℕ → ℕ → Answer A
 answerIn f zero v = accepted (f v)
 answerIn f (suc n) v = refused (suc n) v
+
+-- ---- record counts as four numbers: reads, writes, commits, aborts
+
+abbrev pub recordCountsIn : List ℕ → RecordCounts
+recordCountsIn l = record { reads = getD l 0 0; writes = getD l 1 0; commits = getD l 2 0; aborts = getD l 3 0 }
+
+abbrev pub countList : RecordCounts → List ℕ
+countList c = c .reads ∷ c .writes ∷ c .commits ∷ c .aborts ∷ []

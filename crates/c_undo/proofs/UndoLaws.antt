@@ -3,13 +3,10 @@
 use mathlib.Core.Path.{_≡_, refl, _∙_, ap, sym}
 use mathlib.Core.List.{List}
 use Prim.Native.Nat.{ℕ}
-use native.Mathlib.Omega.{arith}
 use Rattle.model.specs.History.{Amount}
-use Rattle.journal.specs.declared.Reason.{Reason}
 use Rattle.journal.specs.Inputs.{Inputs}
 use Rattle.journal.specs.Reasons.{placeOf}
 use Rattle.journal.specs.Calls as calls
-use Rattle.deliver.specs.declared.UndoTotals.{UndoTotals}
 use Rattle.deliver.specs.declared.Undone.{Undone}
 use Rattle.deliver.specs.declared.Undone.the-variants.{Done, Refused}
 use Rattle.deliver.specs.Answers.{answerOf}
@@ -41,7 +38,3 @@ undo-leaves d bad status out w {r = r} {t′ = t′} {m′} {o′} (same, kept) 
       },
       rw (result, answer, totals, read-back w r, ← is) kept,
     )
-
--- a refusal is no acceptance
-pub never-done : {A : Type 0} (why : Reason) (c : UndoTotals) → Refused why ≡ Done c → A
-never-done why c e = let z : _≡_ {A = ℕ} 0 1 = cc in absurd (omega arith)

@@ -3,8 +3,9 @@
 ghost use mathlib.Core.Path.{_≡_};
 ghost use Rattle.journal.specs.Inputs.{inputsOf};
 ghost use Rattle.journal.specs.Calls as calls;
-ghost use Rattle.c_answers.specs.Results.{resultOf, answerWith, loanWith, answerIn};
-ghost use Rattle.c_post.specs.Leaves.{recordCountsIn, countList, AppendLeaves, startedIn, appendedIn, walkedIn, countedIn};
+ghost use Rattle.c_answers.specs.Results.{resultOf, answerWith, loanWith, answerIn, recordCountsIn, countList};
+ghost use Rattle.c_calls.specs.Leaves.{startedIn, walkedIn, countedIn};
+ghost use Rattle.c_append.specs.Leaves.{AppendLeaves, appendedIn};
 ghost use Rattle.c_undo.specs.Leaves.{UndoLeaves, undoResultIn};
 ghost use Rattle.certified.specs.Promises.{StartPromise, AppendPromise, CheckPromise, ChainPromise, CountPromise, UndoPromise};
 
@@ -25,7 +26,7 @@ pub extern "C" fn journal_start(journal: &mut [u8], items: u32, answer: &mut u64
     ensures journal { λ r. ⌜ now (journal .exit) ≡ calls.start (now (journal .entry)) items .journal ⌝ }
     ensures demands { λ r. ⌜ StartPromise (now (journal .entry)) items (startedIn r (now (answer .exit)) (now (journal .exit))) ⌝ }
 {
-    c_post::start(journal, items, answer)
+    c_calls::start(journal, items, answer)
 }
 
 // Adds one record (document 01, post). `counts` are reads, writes, commits and aborts.
@@ -48,7 +49,7 @@ pub extern "C" fn journal_append(
         (recordCountsIn (now (counts .entry))) (record { kind = kind; tx = transaction; item = item; after = after })
         (appendedIn r (now (answer .exit)) (now (journal .exit)) (now (table .exit)) (now (counts .exit))) ⌝ }
 {
-    c_post::append(
+    c_append::append(
         journal,
         table,
         counts,
@@ -69,7 +70,7 @@ pub extern "C" fn journal_check(journal: &[u8], table: &[i32], answer: &mut u64)
     ensures demands { λ r. ⌜ CheckPromise (inputsOf (now (journal .entry)) (now (table .entry)))
         (answerIn (λ n. n) r (now (answer .exit))) ⌝ }
 {
-    c_post::check(journal, table, answer)
+    c_calls::check(journal, table, answer)
 }
 
 // Writes the record numbers of one transaction to the front of `lsns`.
@@ -87,7 +88,7 @@ pub extern "C" fn journal_chain(
     ensures demands { λ r. ⌜ ChainPromise (now (journal .entry)) transaction (now (lsns .entry))
         (walkedIn r (now (answer .exit)) (now (lsns .exit))) ⌝ }
 {
-    c_post::chain(journal, transaction, lsns, answer)
+    c_calls::chain(journal, transaction, lsns, answer)
 }
 
 // The record counts of a journal or a copy, for posting to go on with: reads, writes, commits and aborts. They are written only
@@ -104,7 +105,7 @@ pub extern "C" fn journal_count_records(
         ≡ loanWith countList (now (counts .entry)) (calls.countRecords (now (journal .entry))) ⌝ }
     ensures demands { λ r. ⌜ CountPromise (now (journal .entry)) (countedIn r (now (answer .exit)) (now (counts .exit))) ⌝ }
 {
-    c_post::count_records(journal, counts, answer)
+    c_calls::count_records(journal, counts, answer)
 }
 
 // Undoes the listed transactions and all that read from them (document 01, take-back). `surviving`, `undone` and `aborted` are

@@ -2,21 +2,20 @@
 -- Assumes nothing.
 use mathlib.Core.Path.{_≡_, refl}
 use mathlib.Core.Bool.{Bool, true, false, _&&_, _||_}
-use mathlib.Core.List.{List}
 use Prim.Native.Nat.{ℕ, _≤_}
 use native.Mathlib.Omega.{arith}
 use lib.Dec.{eqb, ltb}
 use lib.IntN.{pos}
 use mir.Syntax.{w32}
 use mir.Val.{SFits}
-use borrow.Author.Tests.{eqb-true, ltb-true, not-false}
-use Rattle.lists.proofs.BoolLaws.{byCases, and-left, and-right, clash}
+use borrow.Author.Tests.{eqb-true, ltb-true}
+use Rattle.lists.proofs.BoolLaws.{byCases, and-left, clash}
 use Rattle.format.specs.declared.Record.{Record}
 use Rattle.format.specs.Bytes.{Bytes}
 use Rattle.model.specs.History.{sameAmount}
 use Rattle.journal.specs.Inputs.{Inputs}
-use Rattle.journal.specs.Journal.{items, whole, amountAt}
-use Rattle.journal.specs.Refusals.{bodyRight, malformed, RecordCounts, countsByKind, sameCounts, wrongCounts}
+use Rattle.journal.specs.Journal.{items, amountAt}
+use Rattle.journal.specs.Refusals.{bodyRight, malformed, RecordCounts}
 use Rattle.journal.specs.Calls.{AppendResult, openingTable}
 use Rattle.journal.proofs.Checked.{Checks}
 use Rattle.journal.proofs.Passing.{head-facts, malformed-tx}
@@ -29,27 +28,8 @@ use Rattle.demands.proofs.Appending.{Good, appended-clear, entry-fits, good-nex
 use Rattle.demands.proofs.Appending.{good-stands, checks-chained}
 use Rattle.demands.proofs.Demands.{demand-1}
 use Rattle.demands.proofs.Behind.{behind}
+use Rattle.entry.proofs.Agreeing.{right-counts}
 use Rattle.certified.specs.Promises.{entryOf, Entered, AppendPromise}
-
--- ---- a tally that 15 does not refuse
-
-same-eq : (c d : RecordCounts) → sameCounts c d ≡ true → c ≡ d
-same-eq c d h =
-    let r = eqb (c .reads) (d .reads) in
-    let w = eqb (c .writes) (d .writes) in
-    let m = eqb (c .commits) (d .commits) in
-    let a = eqb (c .aborts) (d .aborts) in
-    let h3 = and-left (r && w && m) a h in
-    let h2 = and-left (r && w) m h3 in
-    let er = eqb-true (c .reads) (d .reads) (and-left r w h2) in
-    let ew = eqb-true (c .writes) (d .writes) (and-right r w h2) in
-    let em = eqb-true (c .commits) (d .commits) (and-right (r && w) m h3) in
-    let ea = eqb-true (c .aborts) (d .aborts) (and-right (r && w && m) a h) in
-    λ i. record { reads = er i; writes = ew i; commits = em i; aborts = ea i }
-
-right-counts : (b : List ℕ) (c : RecordCounts) → wrongCounts b c ≡ false → c ≡ countsByKind (whole b)
-unfolding wrongCounts
-right-counts b c e = same-eq c (countsByKind (whole b)) (not-false _ e)
 
 -- ---- a post whose record 4 does not refuse
 
@@ -90,14 +70,14 @@ module _ (d : Inputs) (c : RecordCounts) (p : AppendCall) where
     entered : accepts (appendOn state p .answer) ≡ true → Entered d c p (appendOn state p)
     entered e =
         let k = appended-clear state p e in
-        let (checks, agrees, enters) = clear-appended (d .journal) (d .table) c (entryOf d p) k in
+        let (checks, agrees, enters) = clear-appended d c (entryOf d p) k in
         let g : Good state = record { bytes = bytes; checks = checks; counts = right-counts (d .journal) c agrees } in
         let f = entry-fits state p seen (formed-given d p checks (enters .formed) after) in
         let n = good-next state p g k f in
         record {
           entries = records-next state p g k f;
           chained = checks-chained (n .checks);
-          pass = checks-pass _ _ (n .checks);
+          pass = checks-pass _ (n .checks);
           raised = next-counts state p k;
           agrees = n .counts;
           items = items-next state p g k f;
@@ -110,7 +90,7 @@ module _ (d : Inputs) (c : RecordCounts) (p : AppendCall) where
     append-keeps : AppendPromise d c p (appendOn state p)
     append-keeps =
         record {
-          passed = λ e. checks-pass (d .journal) (d .table) (clear-appended (d .journal) (d .table) c (entryOf d p) (appended-clear state p e) .0);
+          passed = λ e. checks-pass d (clear-appended d c (entryOf d p) (appended-clear state p e) .0);
           entered = entered;
           refuses = demand-1 .append d c (p .kind) (p .tx) (p .item) (p .after);
           lowestRecord = demand-1 .lowestRecord .append d c (p .kind) (p .tx) (p .item) (p .after);

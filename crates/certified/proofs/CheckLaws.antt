@@ -2,7 +2,6 @@
 -- Assumes nothing.
 use mathlib.Core.Path.{_≡_, sym}
 use mathlib.Core.Bool.{true, not}
-use mathlib.Core.List.{List}
 use Prim.Native.Nat.{ℕ, _≤_}
 use Rattle.lists.specs.Search.{any}
 use Rattle.lists.proofs.BoolLaws.{and-left}
@@ -22,7 +21,7 @@ module _ (d : Inputs) where
   active-within : Pass d → (s : ℕ) → active (whole (d .journal)) s ≡ true → (1 ≤ s) × (s ≤ 1024)
   active-within p s e =
       let j = whole (d .journal) in
-      tx-range (d .journal) (pass-checks (d .journal) (d .table) p .sound) s (and-left (any (ofTx s) j) (not (ended j s)) e)
+      tx-range (d .journal) (pass-checks d p .sound) s (and-left (any (ofTx s) j) (not (ended j s)) e)
 
   check-keeps : CheckPromise d (check d)
   unfolding check

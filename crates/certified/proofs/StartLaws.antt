@@ -4,6 +4,7 @@ use mathlib.Core.Path.{_≡_}
 use mathlib.Core.Bool.{true}
 use mathlib.Core.List.{List}
 use Prim.Native.Nat.{ℕ}
+use Rattle.journal.specs.Inputs.{inputsOf}
 use Rattle.journal.specs.Calls.{StartResult, start}
 use Rattle.journal.proofs.Appending.{length-started, count-started, items-started, checks-started}
 use Rattle.demands.specs.Days.{accepts}
@@ -20,7 +21,7 @@ module _ (b : List ℕ) (n : ℕ) where
       record {
         count = count-started b n c;
         items = items-started b n c;
-        pass = λ t h. checks-pass _ t (checks-started b n c t h);
+        pass = λ t h. checks-pass _ (checks-started b n c (inputsOf b t) h);
         size = length-started b n c;
         behind = behind .start b n;
       }

@@ -7,7 +7,7 @@ use mathlib.Core.Bool.{Bool, true, false}
 use mathlib.Core.Logic.{_↔_}
 use mathlib.Core.List.{List, _∷_}
 use mathlib.Core.Option.{none}
-use Prim.Native.Nat.{ℕ, _+_, _*_, _<_, _≤_}
+use Prim.Native.Nat.{ℕ, _+_, _<_, _≤_}
 use lib.ListN.{length, getD, drop}
 use Rattle.lists.specs.Search.{keep}
 use Rattle.lists.specs.Tables.{countIf}
@@ -15,7 +15,7 @@ use Rattle.format.specs.declared.Record.{Record}
 use Rattle.format.specs.Limits.{recordBytes, journalBytes, maxTransaction}
 use Rattle.model.specs.History.{Amount, ofTx, active, current}
 use Rattle.model.specs.Undo.{isSource, Closed}
-use Rattle.journal.specs.Inputs.{Inputs, inputsOf}
+use Rattle.journal.specs.Inputs.{Inputs, inputsOf, handedOn}
 use Rattle.journal.specs.Journal.{count, items, whole, amountAt}
 use Rattle.journal.specs.Refusals.{RecordCounts, countsByKind, unsettled, stillActive, unknown}
 use Rattle.journal.specs.Orders.{decide, openOrder, soundOrder, startOrder, checkOrder, chainOrder, appendOrder, undoOrder}
@@ -81,13 +81,13 @@ pub record Entered (d : Inputs) (c : RecordCounts) (p : AppendCall) (r : AppendR
   -- the records are those before and the new one, each chained
   pub entries : recordsOf (r .journal) ≡ entryOf d p ∷ recordsOf (d .journal)
   pub chained : Chained (r .journal)
-  pub pass : Pass (inputsOf (r .journal) (r .table))
+  pub pass : Pass (handedOn (r .journal) (r .table) d)
   -- one of the four counts rises, and they agree with the journal
   pub raised : r .counts ≡ raised (p .kind) c
   pub agrees : r .counts ≡ countsByKind (whole (r .journal))
   pub items : items (r .journal) ≡ items (d .journal)
   -- the opening table stays, and each amount is what the records make of its opening amount
-  pub opening : openingTable (inputsOf (r .journal) (r .table)) ≡ openingTable d
+  pub opening : openingTable (handedOn (r .journal) (r .table) d) ≡ openingTable d
   pub standing : (x : ℕ) → x < length (openingTable d)
       → amountAt (r .table) x ≡ current (amountAt (openingTable d) x) (whole (r .journal)) x
   pub size : length (r .journal) ≡ length (d .journal)

@@ -22,7 +22,7 @@ use Rattle.journal.specs.Refusals.{absent, tooShort}
 use Rattle.journal.specs.Orders.{try, decide, openOrder, recordsOrder, presentOrder, capacityOrder, chainOrder}
 use Rattle.journal.specs.Calls.{Answer, refused, accepted, answered, walk, written, chainOf, chain}
 use Rattle.journal.proofs.OrdersLaws.{decide-yes, decide-no, decide-turn, decide-one, decide-turns}
-use Rattle.journal.proofs.Clear.{decide-clear, clear-decide, turns-clear}
+use Rattle.journal.proofs.Clear.{decide-clear, turns-clear}
 use Rattle.journal.proofs.Answered.{accepted-only, refused-only}
 use Rattle.journal.proofs.Checked.{clear-sound}
 use Rattle.journal.proofs.Records.{txOf-opOf}
@@ -36,7 +36,7 @@ use Rattle.rules.specs.declared.Verdict.the-variants as verdict
 use Rattle.rules.specs.Answers.{verdictOf}
 use Rattle.rules.specs.Recent.{firstTag}
 use Rattle.rules.specs.Arrays.{Ready, State, firstsOf}
-use Rattle.rules.proofs.ArraysLaws.{firsts-at, length-firsts}
+use Rattle.rules.proofs.ArraysLaws.{firsts-array}
 use Rattle.rules.proofs.Found.{Found, at, first-found, found-none, found-bound, core-right, passed-range}
 use Rattle.validate.proofs.Whole.{passed-ready}
 use Rattle.chain.specs.declared.Begun.{Begun}
@@ -75,9 +75,9 @@ none-above b n s r h =
 first-array : (b : List ℕ) (n s : ℕ) (l : List ℕ) → Ready b n → l ≡ firstsOf (history b n) → getD l s 0 ≡ firstTag (history b n) s
 first-array b n s l r e =
     byCases (ltb s 1025)
-    (λ h. rw e (firsts-at (history b n) s (ltb-true s 1025 h)))
+    (λ h. rw e (firsts-array (history b n) .at s 0 (ltb-true s 1025 h)))
     (λ h. let g = ltb-false s 1025 h in
-    rw e (List·getD-eq-default (firstsOf (history b n)) 0 {n = s} (rw (length-firsts (history b n)) g) ∙ sym (none-above b n s r g)))
+    rw e (List·getD-eq-default (firstsOf (history b n)) 0 {n = s} (rw (firsts-array (history b n) .size) g) ∙ sym (none-above b n s r g)))
 
 absent-first : (b : List ℕ) (s : ℕ) → absent b s ≡ eqb (firstTag (whole b) s) 0
 unfolding absent whole

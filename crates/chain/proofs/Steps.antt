@@ -58,9 +58,9 @@ walk-step b n i z = rw (ne-eqb i 0 z)
 -- after k records, at record i
 pub record Walking (b : List ℕ) (from k i : ℕ) : Type 0 where
   pub low : i ≤ count b
-  pub rising : (i ≡ 0 → ⊥) → k < i
+  rising : (i ≡ 0 → ⊥) → k < i
   pub short : k ≤ count b
-  pub far : k ≤ length (walk b (count b) from)
+  far : k ≤ length (walk b (count b) from)
   pub left : drop k (walk b (count b) from) ≡ walk b (count b - k) i
 
 pub walking-start : (b : List ℕ) (from : ℕ) → from ≤ count b → Walking b from 0 from

@@ -8,12 +8,11 @@ use native.Mathlib.Omega.{arith}
 use native.Mathlib.Numerals.{add-one}
 use lib.Dec.{eqb}
 use lib.ListN.{length}
-use borrow.Author.Tests.{eq-eqb, ne-eqb}
 use Rattle.lists.specs.Search.{keep}
 use Rattle.lists.proofs.BoolLaws.{byCases}
 use Rattle.format.specs.Layout.{recordAt}
 use Rattle.model.specs.History.{Op, History, isRead, isWrite, isCommit, isAbort}
-use Rattle.journal.specs.Journal.{count, history, whole}
+use Rattle.journal.specs.Journal.{history, whole}
 use Rattle.journal.specs.Refusals.{countsByKind}
 use Rattle.journal.specs.Orders.{decide, openOrder}
 use Rattle.journal.specs.declared.Reason.{Reason}
@@ -30,12 +29,6 @@ use Rattle.counts.specs.declared.Counts.{Counts}
 use Rattle.counts.specs.Answers.{recordCountsOf, Few}
 
 -- ---- one record more
-
-pub more-yes : (c e v : ℕ) → e ≡ v → c + 1 ≡ cond (eqb e v) (c + 1) c
-more-yes c e v h = rw (eq-eqb e v h)
-
-pub more-no : (c e v : ℕ) → (e ≡ v → ⊥) → c ≡ cond (eqb e v) (c + 1) c
-more-no c e v h = rw (ne-eqb e v h)
 
 pub raise-each : (c d : Counts) (kind : ℕ) → d .reads ≡ cond (eqb kind 1) (c .reads + 1) (c .reads) → d .writes ≡ cond (eqb kind 2) (c .writes + 1) (c .writes)
     → d .commits ≡ cond (eqb kind 3) (c .commits + 1) (c .commits) → d .aborts ≡ cond (eqb kind 4) (c .aborts + 1) (c .aborts)

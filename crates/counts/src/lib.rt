@@ -1,8 +1,6 @@
 // Record counts by kind (document 01, tally): of a journal, and with one record more.
 ghost use mathlib.Core.Path.{_≡_};
-ghost use mathlib.Core.Bool.{cond};
-ghost use Prim.Native.Nat.{_+_, _*_, _≤_};
-ghost use lib.Dec.{eqb};
+ghost use Prim.Native.Nat.{_≤_};
 ghost use lib.ListN.{length};
 ghost use Rattle.format.specs.Limits.{journalBytes, maxRecords};
 ghost use Rattle.journal.specs.Journal.{history};
@@ -14,6 +12,7 @@ use fields::header;
 use format::Lsn;
 use format::kind_at;
 use journal::Reason;
+use lists::raised;
 
 // Record counts by kind.
 pub struct Counts {
@@ -29,24 +28,16 @@ pub enum Counted {
     Refused(Reason),
 }
 
-// One more, if the kind is k.
-fn more(count: u32, kind: u8, k: u8) -> u32
-    requires { ⌜ count ≤ maxRecords ⌝ }
-    ensures { λ r. ⌜ r ≡ cond (eqb kind k) (count + 1) count ⌝ }
-{
-    if kind == k { count + 1 } else { count }
-}
-
 // One more record of a kind. Four tests take the place of a match: the processor cannot foresee a record's kind.
 pub fn raise(c: Counts, kind: u8) -> Counts
     requires { ⌜ Few c ⌝ }
     ensures { λ r. ⌜ recordCountsOf r ≡ calls.raised kind (recordCountsOf c) ⌝ }
 {
     Counts {
-        reads: more(c.reads, kind, 1),
-        writes: more(c.writes, kind, 2),
-        commits: more(c.commits, kind, 3),
-        aborts: more(c.aborts, kind, 4),
+        reads: raised(c.reads, kind, 1),
+        writes: raised(c.writes, kind, 2),
+        commits: raised(c.commits, kind, 3),
+        aborts: raised(c.aborts, kind, 4),
     }
 }
 

@@ -22,12 +22,12 @@ use Rattle.format.specs.Layout.{recordAt, Fitting}
 use Rattle.format.proofs.LayoutLaws.{recordAt-fitting}
 use Rattle.model.specs.History.{Op, Amount, current, initial}
 use Rattle.model.proofs.Extension.{settled-current}
-use Rattle.journal.specs.Inputs.{inputsOf}
+use Rattle.journal.specs.Inputs.{Inputs, handedOn}
 use Rattle.journal.specs.Journal.{count, items, txIn, opOf, records, history, whole, amountAt}
 use Rattle.journal.specs.Refusals.{within, short, badItems, RecordCounts, sameCounts, countsByKind, malformed, wrongCounts}
 use Rattle.journal.specs.Orders.{Refusal, decide, startOrder, appendOrder}
 use Rattle.journal.specs.Copy.{linkedTo}
-use Rattle.journal.specs.Calls.{loanAfter, start, append, newRecord, extended, appliedTable, raised, openingAt, openingTable}
+use Rattle.journal.specs.Calls.{start, append, newRecord, extended, appliedTable, raised, openingAt, openingTable}
 use Rattle.journal.proofs.Records.{opOf-linkedTo, history-zero, history-suc, records-zero, records-suc}
 use Rattle.journal.proofs.Clear.{Clear, decide-clear, clear-decide}
 use Rattle.journal.proofs.Checked.{Checks}
@@ -36,7 +36,7 @@ use Rattle.journal.proofs.Unrefused.{room, room-for, head-headFields, count-bou
 use Rattle.journal.proofs.Appending.{start-clear, amount-appliedTable, length-openingTable, amount-openingTable, Enters, append-clear, clear-appended, length-extended, extended-bytes, items-extended, whole-extended, records-extended, countsByKind-extended, checks-extended, fits-appliedTable, start-accepted, length-started, started-bytes, count-started, items-started, whole-started, checks-started, opening-extended}
 use Rattle.journal.proofs.Relinked.{count-linked, whole-linked, same-bytes}
 use Rattle.demands.specs.Days.{accepts, recordsOf, Amounts, none, amount}
-use Rattle.demands.specs.Appending.{AppendCall, Given, AllGiven, none, given, AppendState, appendOn, appendStateAfter, runAppends, appendedRecords, AllAccepted, startedState, Chained, AppendReady, Built, AppendedOnto, AppendedReads, appendCallsOf, Rebuilding}
+use Rattle.demands.specs.Appending.{AppendCall, Given, AllGiven, none, given, AppendState, appendOn, appendStateAfter, runAppends, appendedRecords, AllAccepted, startedState, restartedState, Chained, AppendReady, Built, AppendedOnto, AppendedReads, appendCallsOf, Rebuilding}
 use Rattle.demands.proofs.DaysLaws.{answered-none, answered-some, checks-pass, pass-checks}
 use Rattle.demands.proofs.Left.{legal-day, table-stands}
 
@@ -63,14 +63,14 @@ abbrev pub callRecord : AppendState → AppendCall → Record
 callRecord d p = newRecord (d .inputs .table) (p .kind) (p .tx) (p .item) (p .after)
 
 -- a refused post leaves the state as it is
-pub refused-next : (d : AppendState) (p : AppendCall) → accepts (appendOn d p .answer) ≡ false → appendStateAfter d p ≡ d
+refused-next : (d : AppendState) (p : AppendCall) → accepts (appendOn d p .answer) ≡ false → appendStateAfter d p ≡ d
 unfolding append
 refused-next d p e =
     let o : Option Refusal = decide (appendOrder (d .inputs) (d .counts) (callRecord d p)) in
     let j : appendOn d p .journal ≡ d .inputs .journal = answered-some o tt (d .inputs .journal) _ e in
     let t : appendOn d p .table ≡ d .inputs .table = answered-some o tt (d .inputs .table) _ e in
     let c : appendOn d p .counts ≡ d .counts = answered-some o tt (d .counts) _ e in
-    λ i. record { inputs = inputsOf (j i) (t i); counts = c i }
+    λ i. record { inputs = handedOn (j i) (t i) (d .inputs); counts = c i }
 
 pub appended-clear : (d : AppendState) (p : AppendCall) → accepts (appendOn d p .answer) ≡ true → Clear (appendOrder (d .inputs) (d .counts) (callRecord d p))
 unfolding append
@@ -78,18 +78,18 @@ appended-clear d p e = decide-clear _ (answered-none _ _ e)
 
 module _ (d : AppendState) (p : AppendCall) where
   pub enters-clear : Good d → Enters (d .inputs .journal) (callRecord d p) → Clear (appendOrder (d .inputs) (d .counts) (callRecord d p))
-  enters-clear g e = append-clear (d .inputs .journal) (d .inputs .table) (d .counts) (callRecord d p) (g .checks) (counts-right (d .inputs .journal) (d .counts) (g .counts)) e
+  enters-clear g e = append-clear (d .inputs) (d .counts) (callRecord d p) (g .checks) (counts-right (d .inputs .journal) (d .counts) (g .counts)) e
 
   module _ (c : Clear (appendOrder (d .inputs) (d .counts) (callRecord d p))) where
-    pub clear-accepted : accepts (appendOn d p .answer) ≡ true
+    clear-accepted : accepts (appendOn d p .answer) ≡ true
     unfolding append
     clear-accepted = rw (clear-decide c)
 
-    pub next-journal : appendStateAfter d p .inputs .journal ≡ extended (d .inputs .journal) (callRecord d p)
+    next-journal : appendStateAfter d p .inputs .journal ≡ extended (d .inputs .journal) (callRecord d p)
     unfolding append
     next-journal = rw (clear-decide c)
 
-    pub next-table : appendStateAfter d p .inputs .table ≡ appliedTable (whole (d .inputs .journal)) (opOf (suc (count (d .inputs .journal))) (callRecord d p)) (d .inputs .table)
+    next-table : appendStateAfter d p .inputs .table ≡ appliedTable (whole (d .inputs .journal)) (opOf (suc (count (d .inputs .journal))) (callRecord d p)) (d .inputs .table)
     unfolding append
     next-table = rw (clear-decide c)
 
@@ -104,7 +104,7 @@ entry-before d p e = rw e
 -- an accepted post
 module _ (d : AppendState) (p : AppendCall) (g : Good d) (c : Clear (appendOrder (d .inputs) (d .counts) (callRecord d p))) (f : Fitting (callRecord d p)) where
   enters : Enters (d .inputs .journal) (callRecord d p)
-  enters = clear-appended (d .inputs .journal) (d .inputs .table) (d .counts) (callRecord d p) c .2
+  enters = clear-appended (d .inputs) (d .counts) (callRecord d p) c .2
 
   small : count (d .inputs .journal) < 3200
   small = room (d .inputs .journal) (enters .room) .0
@@ -119,7 +119,7 @@ module _ (d : AppendState) (p : AppendCall) (g : Good d) (c : Clear (appendOrder
   good-next =
       record {
         bytes = rw (next-journal d p c) (extended-bytes (d .inputs .journal) (callRecord d p) long (g .bytes));
-        checks = rw (next-journal d p c, next-table d p c) (checks-extended (d .inputs .journal) (d .inputs .table) (callRecord d p) (g .checks) enters f refl (entry-before d p));
+        checks = rw (next-journal d p c, next-table d p c) (checks-extended (d .inputs) (callRecord d p) (g .checks) enters f refl (entry-before d p));
         counts = next-counts d p c ∙ ap (raised (p .kind)) (g .counts) ∙ sym (ap countsByKind whole-next ∙ countsByKind-extended _ (callRecord d p) (whole (d .inputs .journal)));
       }
 
@@ -134,7 +134,7 @@ module _ (d : AppendState) (p : AppendCall) (g : Good d) (c : Clear (appendOrder
 
   pub opening-next : openingTable (appendStateAfter d p .inputs) ≡ openingTable (d .inputs)
   opening-next =
-      rw (next-journal d p c, next-table d p c) (opening-extended (d .inputs .journal) (d .inputs .table) (callRecord d p) (g .checks) enters f refl (entry-before d p))
+      rw (next-journal d p c, next-table d p c) (opening-extended (d .inputs) (callRecord d p) (g .checks) enters f refl (entry-before d p))
 
   pub fits-next : ((x : ℕ) → SFits w32 (amountAt (d .inputs .table) x)) → (x : ℕ) → SFits w32 (amountAt (appendStateAfter d p .inputs .table) x)
   fits-next h x = rw (next-table d p c) (fits-appliedTable (d .inputs .journal) (d .inputs .table) (suc (count (d .inputs .journal))) (callRecord d p) (g .bytes) f h x)
@@ -188,24 +188,26 @@ countsByKind-none : countsByKind [] ≡ record { reads = 0; writes = 0; commits 
 unfolding countsByKind
 countsByKind-none = refl
 
-good-started : (b : List ℕ) (m : ℕ) (t : List Amount) → Bytes b → accepts (start b m .answer) ≡ true → length t ≡ m → Good (startedState b m t)
-good-started b m t k a e =
+good-started : (d : Inputs) (m : ℕ) → Bytes (d .journal) → accepts (start (d .journal) m .answer) ≡ true → length (d .table) ≡ m → Good (startedState d m)
+good-started d m k a e =
+    let b = d .journal in
     let c = started-clear b m a in
-    record { bytes = started-bytes b m c k; checks = checks-started b m c t e; counts = sym (ap countsByKind (whole-started b m c) ∙ countsByKind-none) }
+    record { bytes = started-bytes b m c k; checks = checks-started b m c d e; counts = sym (ap countsByKind (whole-started b m c) ∙ countsByKind-none) }
 
 records-started : (b : List ℕ) (m : ℕ) → accepts (start b m .answer) ≡ true → recordsOf (start b m .journal) ≡ []
 unfolding records
 records-started b m a = rw (count-started b m (started-clear b m a))
 
 -- with no records the opening table is the table
-opening-started : (b : List ℕ) (m : ℕ) (t : List Amount) → accepts (start b m .answer) ≡ true → openingTable (inputsOf (start b m .journal) t) ≡ t
+opening-started : (d : Inputs) (m : ℕ) → accepts (start (d .journal) m .answer) ≡ true → openingTable (startedState d m .inputs) ≡ d .table
 unfolding openingTable openingAt
-opening-started b m t a =
-    ap (λ j. tabulate (λ x. initial (amountAt t x) j x) 0 (length t)) (whole-started b m (started-clear b m a)) ∙ tabulate-getD t (pos 0)
+opening-started d m a =
+    let t = d .table in
+    ap (λ j. tabulate (λ x. initial (amountAt t x) j x) 0 (length t)) (whole-started (d .journal) m (started-clear (d .journal) m a)) ∙ tabulate-getD t (pos 0)
 
-pub checks-chained : {b : List ℕ} {t : List Amount} → Checks (inputsOf b t) → Chained b
+pub checks-chained : {d : Inputs} → Checks d → Chained (d .journal)
 checks-chained k zero l h = absurd (omega arith)
-checks-chained {b} k (suc i) l h = chained-next b (suc i) (k .sound .right i h .chained)
+checks-chained {d} k (suc i) l h = chained-next (d .journal) (suc i) (k .sound .right i h .chained)
 
 -- each amount is what the records make of its opening amount
 pub good-stands : (d : AppendState) → Good d → (t : List Amount) → openingTable (d .inputs) ≡ t → (x : ℕ) → x < length t
@@ -213,9 +215,9 @@ pub good-stands : (d : AppendState) → Good d → (t : List Amount) → opening
 good-stands d g t o x h =
     let b = d .inputs .journal in
     let u = d .inputs .table in
-    let l : x < length u = omega (arith, ap length o, length-openingTable b u) in
-    sym (table-stands b u (g .checks) (legal-day b u (g .bytes) (g .checks)) x (omega (arith, table-length b u (g .checks .table))))
-    ∙ ap (λ a. current a (whole b) x) (sym (amount-openingTable b u x l) ∙ ap (λ v. amountAt v x) o)
+    let l : x < length u = omega (arith, ap length o, length-openingTable (d .inputs)) in
+    sym (table-stands (d .inputs) (g .checks) (legal-day (d .inputs) (g .bytes) (g .checks)) x (omega (arith, table-length b u (g .checks .table))))
+    ∙ ap (λ a. current a (whole b) x) (sym (amount-openingTable (d .inputs) x l) ∙ ap (λ v. amountAt v x) o)
 
 built : {before d : AppendState} {ps : List AppendCall} {rs : List Record} {t : List Amount} → openingTable (before .inputs) ≡ t → RunFacts before d (appendedRecords before ps rs) → Built rs t before ps d
 built {d = d} {t = t} e k =
@@ -223,22 +225,22 @@ built {d = d} {t = t} e k =
     record {
       entries = k .entries;
       chained = checks-chained (k .good .checks);
-      ready = record { bytes = k .good .bytes; amounts = amounts-all _ (k .fits); pass = checks-pass _ _ (k .good .checks); counts = k .good .counts };
+      ready = record { bytes = k .good .bytes; amounts = amounts-all _ (k .fits); pass = checks-pass _ (k .good .checks); counts = k .good .counts };
       items = k .items;
       opening = o;
       standing = good-stands d (k .good) t o;
       room = k .room;
     }
 
-pub ready-good : {d : AppendState} → AppendReady d → Good d
-ready-good r = record { bytes = r .bytes; checks = pass-checks _ _ (r .pass); counts = r .counts }
+ready-good : {d : AppendState} → AppendReady d → Good d
+ready-good r = record { bytes = r .bytes; checks = pass-checks _ (r .pass); counts = r .counts }
 
 pub appended-onto : AppendedOnto
 appended-onto d ps r gs = built refl (run-facts d (recordsOf (d .inputs .journal)) (ready-good r) (amounts-fit (r .amounts)) gs refl)
 
 pub appended-reads : AppendedReads
-appended-reads b m t ps k a e n gs =
-    built (opening-started b m t a) (run-facts (startedState b m t) [] (good-started b m t k a e) (amounts-fit n) gs (records-started b m a))
+appended-reads d m ps k a e n gs =
+    built (opening-started d m a) (run-facts (startedState d m) [] (good-started d m k a e) (amounts-fit n) gs (records-started (d .journal) m a))
 
 -- ---- rebuilding
 
@@ -260,14 +262,20 @@ accepted-one d p e = (e, tt)
 abbrev appendCallOf : Record → AppendCall
 appendCallOf r = record { kind = r .kind; tx = txIn r; item = r .item .0; after = r .after }
 
-module _ (b : List ℕ) (t : List Amount) (z : List ℕ) (kb : Bytes b) (kz : Bytes z) (k : Checks (inputsOf b t)) (space : 20 * (count b + 1) ≤ length z) where
+module _ (v : Inputs) (z : List ℕ) (kb : Bytes (v .journal)) (kz : Bytes z) (k : Checks v) (space : 20 * (count (v .journal) + 1) ≤ length z) where
+  abbrev b : List ℕ
+  b = v .journal
+
+  abbrev t : List Amount
+  t = v .table
+
   -- the state after the posts of the first n records
   record At (n : ℕ) (d : AppendState) : Type 0 where
     good : Good d
     entries : recordsOf (d .inputs .journal) ≡ map (linkedTo 0) (records b n)
     items : items (d .inputs .journal) ≡ items b
     room : length (d .inputs .journal) ≡ length z
-    table : (x : ℕ) → x < length t → amountAt (d .inputs .table) x ≡ current (openingAt (inputsOf b t) x) (history b n) x
+    table : (x : ℕ) → x < length t → amountAt (d .inputs .table) x ≡ current (openingAt v x) (history b n) x
 
   module _ (n : ℕ) (h : n < count b) (d : AppendState) (w : At n d) where
     abbrev r : Record
@@ -287,7 +295,7 @@ module _ (b : List ℕ) (t : List Amount) (z : List ℕ) (kb : Bytes b) (kz : By
         record-path refl (sym (formed (items b) r g .reserved)) refl refl refl
         (formed-cases (items b) r g
         (λ e l v. rw e (sym v))
-        (λ e l. rw e (w .table (r .item .0) (omega arith) ∙ sym (before-standing (k .sound) t n h e)))
+        (λ e l. rw e (w .table (r .item .0) (omega arith) ∙ sym (before-standing v (k .sound) n h e)))
         (λ e v. rw e (sym v))
         (λ e v. rw e (sym v)))
         refl
@@ -312,7 +320,7 @@ module _ (b : List ℕ) (t : List Amount) (z : List ℕ) (kb : Bytes b) (kz : By
     at-clear : Clear (appendOrder (d .inputs) (d .counts) (callRecord d (appendCallOf r)))
     at-clear = enters-clear d (appendCallOf r) (w .good) at-enters
 
-    at-table : (x : ℕ) → x < length t → amountAt (appendStateAfter d (appendCallOf r) .inputs .table) x ≡ current (openingAt (inputsOf b t) x) (history b (suc n)) x
+    at-table : (x : ℕ) → x < length t → amountAt (appendStateAfter d (appendCallOf r) .inputs .table) x ≡ current (openingAt v x) (history b (suc n)) x
     at-table x l =
         let o : Op = opOf (suc (count (d .inputs .journal))) (callRecord d (appendCallOf r)) in
         let m : length (d .inputs .table) ≡ length t = table-length (d .inputs .journal) (d .inputs .table) (w .good .checks .table) ∙ w .items ∙ sym (table-length b t (k .table)) in
@@ -331,7 +339,7 @@ module _ (b : List ℕ) (t : List Amount) (z : List ℕ) (kb : Bytes b) (kz : By
         }
 
   abbrev startState : AppendState
-  startState = startedState z (items b) (openingTable (inputsOf b t))
+  startState = restartedState v z
 
   started : Clear (startOrder z (items b))
   unfolding short badItems items
@@ -345,11 +353,11 @@ module _ (b : List ℕ) (t : List Amount) (z : List ℕ) (kb : Bytes b) (kz : By
   at-started : At 0 startState
   at-started =
       record {
-        good = good-started z (items b) (openingTable (inputsOf b t)) kz start-accepts (length-openingTable b t ∙ table-length b t (k .table));
+        good = good-started (handedOn z (openingTable v) v) (items b) kz start-accepts (length-openingTable v ∙ table-length b t (k .table));
         entries = records-started z (items b) start-accepts ∙ sym (ap (map (linkedTo 0)) (records-zero b));
         items = items-started z (items b) started;
         room = length-started z (items b) started;
-        table = λ x h. amount-openingTable b t x h ∙ rw (history-zero b);
+        table = λ x h. amount-openingTable v x h ∙ rw (history-zero b);
       }
 
   at-run : (n : ℕ) → n ≤ count b → At n (runAppends startState (appendCallsOf b n)) × AllAccepted startState (appendCallsOf b n)
@@ -373,13 +381,11 @@ module _ (b : List ℕ) (t : List Amount) (z : List ℕ) (kb : Bytes b) (kz : By
 
 pub rebuilding : Rebuilding
 rebuilding v z kb kz e space =
-    let b = v .journal in
-    let t = v .table in
-    let k = pass-checks b t e in
-    let (w, a) = at-run b t z kb kz k space (count b) (omega arith) in
+    let k = pass-checks v e in
+    let (w, a) = at-run v z kb kz k space (count (v .journal)) (omega arith) in
     record {
-      started = start-accepts b t z kb kz k space;
+      started = start-accepts v z kb kz k space;
       accepted = a;
-      journal = same-bytes _ b (w .good .bytes) kb (w .good .checks .sound) (k .sound) (w .items) (w .entries);
-      table = table-again b t z kb kz k space _ w;
+      journal = same-bytes _ (v .journal) (w .good .bytes) kb (w .good .checks .sound) (k .sound) (w .items) (w .entries);
+      table = table-again v z kb kz k space _ w;
     }

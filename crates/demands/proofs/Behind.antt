@@ -20,7 +20,7 @@ use Rattle.format.specs.Bytes.{bytes}
 use Rattle.format.proofs.BytesLaws.{length-bytes}
 use Rattle.format.proofs.LayoutLaws.{length-bytesOf, recordAt-front}
 use Rattle.model.specs.History.{Op, Amount, ofTx, tagIn, laterOf}
-use Rattle.journal.specs.Inputs.{inputsOf}
+use Rattle.journal.specs.Inputs.{Inputs, onto}
 use Rattle.journal.specs.Journal.{count, items, txIn, records, history, whole}
 use Rattle.journal.specs.Refusals.{RecordCounts, short, truncated, badHead, wrongTable, wrongNext, unsettled, stillActive, unknown, absent, noRoom, wrongCounts}
 use Rattle.journal.specs.Orders.{Refusal, tryEach, decide, openOrder, recordOrder, recordsOrder, soundOrder, tableOrder, settledOrder, activeOrder, knownOrder, presentOrder, capacityOrder, countsOrder, newOrder, checkOrder, chainOrder, appendOrder, undoOrder, startOrder}
@@ -60,14 +60,14 @@ module _ (b c : List ℕ) (a : Agree b c) where
       ap (λ e. recordAt e i) (sym (take-append-drop (20 * (count b + 1)) d))
       ∙ recordAt-front i (take (20 * (count b + 1)) d) (drop (20 * (count b + 1)) d) (omega (arith, length-take-le (20 * (count b + 1)) d h))
 
-  pub record-agree : (i : ℕ) → i ≤ count b → recordAt b i ≡ recordAt c i
-  record-agree i h = front b (a .left) i h ∙ ap (λ d. recordAt d i) (a .same) ∙ sym (front c (a .right) i h)
+  record-agree : (i : ℕ) → i ≤ count b → recordAt b i ≡ recordAt c i
+  record-agree i h = front b (a .firstLong) i h ∙ ap (λ d. recordAt d i) (a .same) ∙ sym (front c (a .secondLong) i h)
 
-  pub count-agree : count b ≡ count c
+  count-agree : count b ≡ count c
   unfolding count
   count-agree = ap (λ r. r .next .0) (record-agree 0 (omega arith))
 
-  pub items-agree : items b ≡ items c
+  items-agree : items b ≡ items c
   unfolding items
   items-agree = ap (λ r. r .item .0) (record-agree 0 (omega arith))
 
@@ -91,10 +91,10 @@ module _ (b c : List ℕ) (a : Agree b c) where
   open-agree : openOrder b ≡ openOrder c
   unfolding openOrder short badHead truncated
   open-agree =
-      let l1 : ltb (length b) 20 ≡ false = le-ltb (length b) 20 (omega (arith, a .left)) in
-      let l2 : ltb (length c) 20 ≡ false = le-ltb (length c) 20 (omega (arith, a .right)) in
-      let l3 : ltb (length b) (20 * (count b + 1)) ≡ false = le-ltb (length b) (20 * (count b + 1)) (a .left) in
-      let l4 : ltb (length c) (20 * (count c + 1)) ≡ false = le-ltb (length c) (20 * (count c + 1)) (omega (arith, a .right, count-agree)) in
+      let l1 : ltb (length b) 20 ≡ false = le-ltb (length b) 20 (omega (arith, a .firstLong)) in
+      let l2 : ltb (length c) 20 ≡ false = le-ltb (length c) 20 (omega (arith, a .secondLong)) in
+      let l3 : ltb (length b) (20 * (count b + 1)) ≡ false = le-ltb (length b) (20 * (count b + 1)) (a .firstLong) in
+      let l4 : ltb (length c) (20 * (count c + 1)) ≡ false = le-ltb (length c) (20 * (count c + 1)) (omega (arith, a .secondLong, count-agree)) in
       rw (l1, l2, l3, l4, record-agree 0 (omega arith))
 
   wrongNext-agree : (i : ℕ) → i ≤ count b → wrongNext b i ≡ wrongNext c i
@@ -117,17 +117,19 @@ module _ (b c : List ℕ) (a : Agree b c) where
   unfolding unsettled
   unsettled-agree t x = rw whole-agree
 
-  settled-order : (t : List Amount) → settledOrder (inputsOf b t) ≡ settledOrder (inputsOf c t)
+  settled-order : (d : Inputs) → settledOrder (onto b d) ≡ settledOrder (onto c d)
   unfolding settledOrder
-  settled-order t = tryEach-ext 10 (unsettled b t) (unsettled c t) 0 (items b) (λ x l u. unsettled-agree t x) ∙ ap (tryEach 10 (unsettled c t) 0) items-agree
+  settled-order d =
+      tryEach-ext 10 (unsettled b (d .table)) (unsettled c (d .table)) 0 (items b) (λ x l u. unsettled-agree (d .table) x)
+      ∙ ap (tryEach 10 (unsettled c (d .table)) 0) items-agree
 
-  pub check-order : (t : List Amount) → checkOrder (inputsOf b t) ≡ checkOrder (inputsOf c t)
+  check-order : (d : Inputs) → checkOrder (onto b d) ≡ checkOrder (onto c d)
   unfolding checkOrder tableOrder wrongTable
-  check-order t = rw (open-agree, items-agree, records-order, settled-order t)
+  check-order d = rw (open-agree, items-agree, records-order, settled-order d)
 
-  check-agree : (t : List Amount) → check (inputsOf b t) ≡ check (inputsOf c t)
+  check-agree : (d : Inputs) → check (onto b d) ≡ check (onto c d)
   unfolding check
-  check-agree t = rw (check-order t, whole-agree)
+  check-agree d = rw (check-order d, whole-agree)
 
   -- ---- take-back
 
@@ -139,21 +141,21 @@ module _ (b c : List ℕ) (a : Agree b c) where
   unfolding copy
   copy-agree bad = rw (whole-agree, copySurviving-agree)
 
-  result-agree : (φ : CopyRule) (u k : ℕ → Bool) (d : Option Refusal) (t : List Amount) (status out : List ℕ) → result φ u k d (inputsOf b t) status out ≡ result φ u k d (inputsOf c t) status out
+  result-agree : (φ : CopyRule) (u k : ℕ → Bool) (v : Option Refusal) (d : Inputs) (status out : List ℕ) → result φ u k v (onto b d) status out ≡ result φ u k v (onto c d) status out
   unfolding result tableSurviving openingAt totals
-  result-agree φ u k d t status out = rw (whole-agree, copySurviving-agree φ k)
+  result-agree φ u k v d status out = rw (whole-agree, copySurviving-agree φ k)
 
   active-agree : activeOrder (stillActive b) ≡ activeOrder (stillActive c)
   unfolding activeOrder stillActive
   active-agree = tryEach-ext 11 _ _ 1 1024 (λ s l u. rw whole-agree)
 
-  undo-order : (t : List Amount) (bad status out : List ℕ) → undoOrder (inputsOf b t) bad status out (length (copy bad b)) ≡ undoOrder (inputsOf c t) bad status out (length (copy bad c))
+  undo-order : (d : Inputs) (bad status out : List ℕ) → undoOrder (onto b d) bad status out (length (copy bad b)) ≡ undoOrder (onto c d) bad status out (length (copy bad c))
   unfolding undoOrder knownOrder unknown
-  undo-order t bad status out = rw (check-order t, active-agree, whole-agree, copy-agree bad)
+  undo-order d bad status out = rw (check-order d, active-agree, whole-agree, copy-agree bad)
 
-  undo-agree : (t : List Amount) (bad status out : List ℕ) → undo (inputsOf b t) bad status out ≡ undo (inputsOf c t) bad status out
+  undo-agree : (d : Inputs) (bad status out : List ℕ) → undo (onto b d) bad status out ≡ undo (onto c d) bad status out
   unfolding undo
-  undo-agree t bad status out = rw (undo-order t bad status out, whole-agree) (result-agree unchanged _ _ _ t status out)
+  undo-agree d bad status out = rw (undo-order d bad status out, whole-agree) (result-agree unchanged _ _ _ d status out)
 
   -- ---- slip
 
@@ -189,9 +191,9 @@ module _ (b c : List ℕ) (a : Agree b c) where
 
   -- ---- post
 
-  append-order : (t : List Amount) (n : RecordCounts) (r : Record) → noRoom b ≡ noRoom c → appendOrder (inputsOf b t) n r ≡ appendOrder (inputsOf c t) n r
+  append-order : (d : Inputs) (n : RecordCounts) (r : Record) → noRoom b ≡ noRoom c → appendOrder (onto b d) n r ≡ appendOrder (onto c d) n r
   unfolding appendOrder countsOrder newOrder wrongCounts
-  append-order t n r e = rw (check-order t, whole-agree, items-agree, count-agree, e)
+  append-order d n r e = rw (check-order d, whole-agree, items-agree, count-agree, e)
 
   module _ (r : Record) (e : noRoom b ≡ noRoom c) (f : noRoom b ≡ false) where
     room-left : 20 * (count b + 1) + 20 ≤ length b
@@ -233,34 +235,35 @@ module _ (b c : List ℕ) (a : Agree b c) where
         rw (← count-agree, ← whole-agree)
         (front-added b room-left i l ∙ ap (λ d. store 4 (bytes 4 (suc (count b))) (link (suc (count b)) i (d ++ bytesOf r))) (a .same) ∙ sym (front-added c room-right i l))
 
-  append-agree : (t : List Amount) (n : RecordCounts) (kind s x : ℕ) (v : Amount) → noRoom b ≡ noRoom c
-      → (append (inputsOf b t) n kind s x v .answer ≡ append (inputsOf c t) n kind s x v .answer) × (append (inputsOf b t) n kind s x v .table ≡ append (inputsOf c t) n kind s x v .table)
-      × (append (inputsOf b t) n kind s x v .counts ≡ append (inputsOf c t) n kind s x v .counts)
-      × (accepts (append (inputsOf b t) n kind s x v .answer) ≡ true
-      → take (20 * (count b + 1) + 20) (append (inputsOf b t) n kind s x v .journal) ≡ take (20 * (count b + 1) + 20) (append (inputsOf c t) n kind s x v .journal))
+  append-agree : (d : Inputs) (n : RecordCounts) (kind s x : ℕ) (v : Amount) → noRoom b ≡ noRoom c
+      → (append (onto b d) n kind s x v .answer ≡ append (onto c d) n kind s x v .answer) × (append (onto b d) n kind s x v .table ≡ append (onto c d) n kind s x v .table)
+      × (append (onto b d) n kind s x v .counts ≡ append (onto c d) n kind s x v .counts)
+      × (accepts (append (onto b d) n kind s x v .answer) ≡ true
+      → take (20 * (count b + 1) + 20) (append (onto b d) n kind s x v .journal) ≡ take (20 * (count b + 1) + 20) (append (onto c d) n kind s x v .journal))
   unfolding append
-  append-agree t n kind s x v e =
-      let r : Record = newRecord t kind s x v in
-      let o = append-order t n r e in (
+  append-agree d n kind s x v e =
+      let r : Record = newRecord (d .table) kind s x v in
+      let o = append-order d n r e in (
         rw o,
         rw (o, whole-agree, count-agree),
         rw o,
         λ h.
-            let d = answered-none (decide (appendOrder (inputsOf b t) n r)) tt h in
-            let f = clear-appended b t n r (decide-clear (appendOrder (inputsOf b t) n r) d) .2 .room in
-            rw (d, sym (ap decide o) ∙ d) (extended-agree r e f),
+            let z = answered-none (decide (appendOrder (onto b d) n r)) tt h in
+            let f = clear-appended (onto b d) n r (decide-clear (appendOrder (onto b d) n r) z) .2 .room in
+            rw (z, sym (ap decide o) ∙ z) (extended-agree r e f),
       )
 
 -- what an accepted post writes ends with its record
-behind-append : (b : List ℕ) (t : List Amount) (n : RecordCounts) (kind s x : ℕ) (v : Amount)
-    → drop (20 * (count b + 1) + 20) (append (inputsOf b t) n kind s x v .journal) ≡ drop (20 * (count b + 1) + 20) b
+behind-append : (d : Inputs) (n : RecordCounts) (kind s x : ℕ) (v : Amount)
+    → drop (20 * (count (d .journal) + 1) + 20) (append d n kind s x v .journal) ≡ drop (20 * (count (d .journal) + 1) + 20) (d .journal)
 unfolding append
-behind-append b t n kind s x v =
-    let r : Record = newRecord t kind s x v in
+behind-append d n kind s x v =
+    let b = d .journal in
+    let r : Record = newRecord (d .table) kind s x v in
     let m : 20 * (count b + 2) ≡ 20 * (count b + 1) + 20 = omega arith in
-    decide-cases (appendOrder (inputsOf b t) n r)
+    decide-cases (appendOrder d n r)
     (λ z.
-    let f = clear-appended b t n r (decide-clear (appendOrder (inputsOf b t) n r) z) .2 .room in
+    let f = clear-appended d n r (decide-clear (appendOrder d n r) z) .2 .room in
     rw z (ap (λ k. drop k (extended b r)) (sym m) ∙ extended-behind b r (room b f .1) ∙ ap (λ k. drop k b) m))
     (λ q z. rw z)
 
@@ -281,10 +284,10 @@ pub behind : Behind
 behind =
     record {
       start = behind-start;
-      check = λ d c a. check-agree (d .journal) c a (d .table);
+      check = λ d c a. check-agree (d .journal) c a d;
       chain = λ b c s l a. chain-agree b c a s l;
       countRecords = count-agrees;
-      undo = λ d c bad status out a. undo-agree (d .journal) c a (d .table) bad status out;
-      behind = λ d. behind-append (d .journal) (d .table);
-      append = λ d c n kind s x v a e. append-agree (d .journal) c a (d .table) n kind s x v e;
+      undo = λ d c bad status out a. undo-agree (d .journal) c a d bad status out;
+      behind = behind-append;
+      append = λ d c n kind s x v a e. append-agree (d .journal) c a d n kind s x v e;
     }

@@ -2,12 +2,9 @@
 -- Assumes nothing.
 use mathlib.Core.Path.{_≡_, refl}
 use mathlib.Core.Bool.{true, false}
-use mathlib.Core.List.{List}
 use mathlib.Core.Option.{Option, none, some}
-use Prim.Native.Nat.{ℕ}
 use Rattle.lists.proofs.BoolLaws.{clash}
-use Rattle.model.specs.History.{Amount}
-use Rattle.journal.specs.Inputs.{inputsOf}
+use Rattle.journal.specs.Inputs.{Inputs}
 use Rattle.journal.specs.Orders.{Refusal, checkOrder}
 use Rattle.journal.specs.Calls.{answered, loanAfter, check}
 use Rattle.journal.proofs.Clear.{decide-clear, clear-decide}
@@ -22,10 +19,10 @@ pub answered-some : {A B : Type 0} (d : Option Refusal) (a : A) (old new : B) �
 answered-some none a old new e = clash refl e
 answered-some (some r) a old new e = refl
 
-pub checks-pass : (b : List ℕ) (t : List Amount) → Checks (inputsOf b t) → Pass (inputsOf b t)
+pub checks-pass : (d : Inputs) → Checks d → Pass d
 unfolding check
-checks-pass b t k = rw (clear-decide (checks-clear b t k))
+checks-pass d k = rw (clear-decide (checks-clear d k))
 
-pub pass-checks : (b : List ℕ) (t : List Amount) → Pass (inputsOf b t) → Checks (inputsOf b t)
+pub pass-checks : (d : Inputs) → Pass d → Checks d
 unfolding check
-pass-checks b t e = clear-checks b t (decide-clear (checkOrder (inputsOf b t)) (answered-none _ _ e))
+pass-checks d e = clear-checks d (decide-clear (checkOrder d) (answered-none _ _ e))

@@ -16,7 +16,7 @@ use Rattle.lists.proofs.TablesLaws.{tabulate-ext, tabulate-getD, getD-tabulate}
 use Rattle.format.specs.declared.Record.{Record}
 use Rattle.format.specs.Bytes.{Bytes}
 use Rattle.format.specs.Layout.{recordAt}
-use Rattle.model.specs.History.{Op, History, Amount, read, txOf, tagIn, ofTx, committed}
+use Rattle.model.specs.History.{Op, History, read, txOf, tagIn, ofTx, committed}
 use Rattle.model.specs.Undo.{Untagged, isSource, Upto, all, more, readsFrom, surviving, only, renumber, replayed, repaired}
 use Rattle.model.proofs.Ends.{upto-length, upto-unique}
 use Rattle.model.proofs.ReadsFromLaws.{isSource-test}
@@ -26,7 +26,7 @@ use Rattle.model.proofs.Strict.{legal-endsLast, replayed-by}
 use Rattle.model.proofs.Repair.{read-stands}
 use Rattle.model.proofs.Renumber.{length-renumber, current-renumber, readsFrom-found, tagOf-retag}
 use Rattle.model.proofs.Opening.{finished-stand}
-use Rattle.journal.specs.Inputs.{inputsOf}
+use Rattle.journal.specs.Inputs.{Inputs}
 use Rattle.journal.specs.Journal.{count, opOf, history, whole, amountAt, txIn, records}
 use Rattle.journal.specs.Orders.{Refusal, decide, undoOrder}
 use Rattle.journal.specs.Copy.{copy, linkedTo, copied, copiedBy, recordsSurviving, copyRecords, unchanged}
@@ -49,9 +49,12 @@ upto-only : (k : ℕ → Bool) {p j : History} → Upto p j → Upto (renumber (
 upto-only k all = all
 upto-only k (more {q} {j} i) = byCases (k (txOf q)) (λ e. rw e (more (upto-only k i))) (λ e. rw e (upto-only k i))
 
-module _ (b : List ℕ) (t : List Amount) (day : Day (inputsOf b t)) (bad : List ℕ) where
-  checks : Checks (inputsOf b t)
-  checks = pass-checks b t (day .pass)
+module _ (d : Inputs) (day : Day d) (bad : List ℕ) where
+  abbrev b : List ℕ
+  b = d .journal
+
+  checks : Checks d
+  checks = pass-checks d (day .pass)
 
   -- the transactions it keeps
   abbrev k : ℕ → Bool
@@ -62,7 +65,7 @@ module _ (b : List ℕ) (t : List Amount) (day : Day (inputsOf b t)) (bad : List
   unfolding whole
   part i h =
       let u : Upto (renumber (only k (history b i))) (whole (copy bad b)) =
-      rw (copy-whole b t (day .bytes) checks bad) (upto-only k (history-upto b i (count b) h)) in
+      rw (copy-whole d (day .bytes) checks bad) (upto-only k (history-upto b i (count b) h)) in
       let l : lsnInCopy k b i ≤ count (copy bad b) = bound (whole (copy bad b)) u (length-history (copy bad b) (count (copy bad b))) in
       upto-unique (history-upto (copy bad b) (lsnInCopy k b i) (count (copy bad b)) l) u (length-history (copy bad b) (lsnInCopy k b i) ∙ sym (length-renumber (only k (history b i))))
     where
@@ -88,17 +91,14 @@ module _ (b : List ℕ) (t : List Amount) (day : Day (inputsOf b t)) (bad : List
   readsFrom-lsnInCopy i s x w h l =
       let (f, u, e, e') = readsFrom-found isSource isSource-test (only k (history b i)) s x in
       ap (λ q. tagIn (readsFrom isSource q s x)) (part i l) ∙ ap tagIn e' ∙ latest-lsnInCopy f u i ∙ ap (λ o. lsnInCopy k b (tagIn o)) (sym e)
-      ∙ ap (λ o. lsnInCopy k b (tagIn o)) (readsFrom-copy isSource bad (whole b) (legal-endsLast (openingAt (inputsOf b t)) (whole b) (legal-day b t (day .bytes) checks)) w h)
+      ∙ ap (λ o. lsnInCopy k b (tagIn o)) (readsFrom-copy isSource bad (whole b) (legal-endsLast (openingAt d) (whole b) (legal-day d (day .bytes) checks)) w h)
 
   read-upto : (i s x : ℕ) → i < count b → opOf (suc i) (recordAt b (suc i)) ≡ read (suc i) s x → Upto (read (suc i) s x ∷ history b i) (whole b)
   unfolding whole
   read-upto i s x l e = rw (← e) (rw (history-suc b i) at (history-upto b (suc i) (count b) (omega arith)))
 
-  tx-read : (i s x : ℕ) (o : Op) → o ≡ read i s x → txOf o ≡ s
-  tx-read i s x o e = ap txOf e
-
   same-read : (i s x : ℕ) → i < count b → opOf (suc i) (recordAt b (suc i)) ≡ read (suc i) s x → k s ≡ true
-      → SameRead k (inputsOf b t) (copy bad b) i s x
+      → SameRead k d (copy bad b) i s x
   same-read i s x l e h =
       let u = read-upto i s x l e in
       let kept : k (txOf (opOf (suc i) (recordAt b (suc i)))) ≡ true = ap (λ o. k (txOf o)) e ∙ h in
@@ -110,8 +110,8 @@ module _ (b : List ℕ) (t : List Amount) (day : Day (inputsOf b t)) (bad : List
         there = rw r (head-eq-of-cons-eq (sym (history-suc (copy bad b) (lsnInCopy k b i)) ∙ ap (history (copy bad b)) (sym r) ∙ part (suc i) (omega arith) ∙ w));
         readsFrom = readsFrom-lsnInCopy i s x u h (omega arith);
         amount = rw (part i (omega arith))
-            (current-renumber (openingAt (inputsOf b t) x) (only k (history b i)) x
-            ∙ read-stands isSource isSource-test (openingAt (inputsOf b t)) bad (whole b) (legal-day b t (day .bytes) checks) x (suc i) s (history b i) u h);
+            (current-renumber (openingAt d x) (only k (history b i)) x
+            ∙ read-stands isSource isSource-test (openingAt d) bad (whole b) (legal-day d (day .bytes) checks) x (suc i) s (history b i) u h);
       }
 
   -- ---- the copy's records, one by one
@@ -124,7 +124,7 @@ module _ (b : List ℕ) (t : List Amount) (day : Day (inputsOf b t)) (bad : List
 
   copy-count-lsnInCopy : count (copy bad b) ≡ lsnInCopy k b (count b)
   unfolding copyRecords recordsSurviving
-  copy-count-lsnInCopy = copy-count b t (day .bytes) checks bad ∙ lsnInCopy-copied (count b)
+  copy-count-lsnInCopy = copy-count d (day .bytes) checks bad ∙ lsnInCopy-copied (count b)
 
   -- its first records are those that come of the journal's first
   records-part : (i : ℕ) → i ≤ count b → records (copy bad b) (lsnInCopy k b i) ≡ copied k (repaired isSource bad (whole b)) (records b i)
@@ -132,7 +132,7 @@ module _ (b : List ℕ) (t : List Amount) (day : Day (inputsOf b t)) (bad : List
   records-part i h =
       let u = copiedBy-suffix unchanged k (repaired isSource bad (whole b)) (records-suffix b i (count b) h) in
       let l : lsnInCopy k b i ≤ count (copy bad b) = omega (arith, suffix-length u, lsnInCopy-copied i, lsnInCopy-copied (count b), copy-count-lsnInCopy) in
-      suffix-unique (rw (copy-records b t (day .bytes) checks bad) at (records-suffix (copy bad b) (lsnInCopy k b i) (count (copy bad b)) l)) u
+      suffix-unique (rw (copy-records d (day .bytes) checks bad) at (records-suffix (copy bad b) (lsnInCopy k b i) (count (copy bad b)) l)) u
       (length-records (copy bad b) (lsnInCopy k b i) ∙ sym (lsnInCopy-copied i))
 
   same-record : (i : ℕ) → i < count b → k (txIn (recordAt b (suc i))) ≡ true → linkedTo 0 (recordAt (copy bad b) (lsnInCopy k b (suc i))) ≡ linkedTo 0 (recordAt b (suc i))
@@ -151,64 +151,69 @@ unfolding copiedBy
 copied-keep k h [] = refl
 copied-keep k h (r ∷ rs) = byCases (k (txIn r)) (λ e. rw e (ap (λ l. linkedTo 0 r ∷ l) (copied-keep k h rs))) (λ e. rw e (copied-keep k h rs))
 
-records-surviving : (b : List ℕ) (t : List Amount) → Bytes b → Checks (inputsOf b t) → (bad : List ℕ) → recordsOf (copy bad b) ≡ keep (λ w. surviving isSource bad (whole b) (txIn w)) (recordsOf b)
+records-surviving : (d : Inputs) → Bytes (d .journal) → Checks d → (bad : List ℕ)
+    → recordsOf (copy bad (d .journal)) ≡ keep (λ w. surviving isSource bad (whole (d .journal)) (txIn w)) (recordsOf (d .journal))
 unfolding copyRecords recordsSurviving
-records-surviving b t bytes k bad =
-    ap (map (linkedTo 0)) (copy-records b t bytes k bad) ∙ copied-keep (surviving isSource bad (whole b)) (repaired isSource bad (whole b)) (records b (count b))
+records-surviving d bytes k bad =
+    let b = d .journal in
+    ap (map (linkedTo 0)) (copy-records d bytes k bad) ∙ copied-keep (surviving isSource bad (whole b)) (repaired isSource bad (whole b)) (records b (count b))
 
 -- ---- the table left
 
-pub left-replayed : (b : List ℕ) (t : List Amount) (bad : List ℕ) (x : ℕ) → x < length t → amountAt (tableLeft bad (inputsOf b t)) x ≡ replayed (surviving isSource bad (whole b)) (openingAt (inputsOf b t) x) (whole b) x
+pub left-replayed : (d : Inputs) (bad : List ℕ) (x : ℕ) → x < length (d .table)
+    → amountAt (tableLeft bad d) x ≡ replayed (surviving isSource bad (whole (d .journal))) (openingAt d x) (whole (d .journal)) x
 unfolding tableLeft tableSurviving
-left-replayed b t bad x h =
-    getD-tabulate (λ x. replayed (surviving isSource bad (whole b)) (openingAt (inputsOf b t) x) (whole b) x) 0 (length t) x (pos 0) h
-    ∙ ap (λ y. replayed (surviving isSource bad (whole b)) (openingAt (inputsOf b t) y) (whole b) y) (omega arith)
+left-replayed d bad x h =
+    let j = whole (d .journal) in
+    getD-tabulate (λ x. replayed (surviving isSource bad j) (openingAt d x) j x) 0 (length (d .table)) x (pos 0) h
+    ∙ ap (λ y. replayed (surviving isSource bad j) (openingAt d y) j y) (omega arith)
 
 pub delete-model : DeleteModel
-delete-model v bad status out n a =
-    let b = v .journal in
-    let t = v .table in
+delete-model d bad status out n a =
+    let b = d .journal in
     let day = accepted-day a in
-    let k = pass-checks b t (day .pass) in
+    let k = pass-checks d (day .pass) in
     let (c, e) = accepted-clear a in
-    let q : copyIn (undo (inputsOf b t) bad status out) n ≡ copy bad b = rw (← e) (undo-copy b t bad status out c) in
-    let f : surviving isSource bad (whole b) ≡ isSurviving (undo v bad status out) = sym (fun-ext (statusAt-surviving b t bad status out day c)) in
-    let m : (s : ℕ) → statusAt (undo v bad status out) s ≡ 1 → surviving isSource bad (whole b) s ≡ true = λ s h. sym (statusAt-surviving b t bad status out day c s) ∙ eq-eqb _ 1 h in
-    let w = undo-table b t bad status out c in
+    let q : copyIn (undo d bad status out) n ≡ copy bad b = rw (← e) (undo-copy d bad status out c) in
+    let f : surviving isSource bad (whole b) ≡ isSurviving (undo d bad status out) = sym (fun-ext (statusAt-surviving d bad status out day c)) in
+    let m : (s : ℕ) → statusAt (undo d bad status out) s ≡ 1 → surviving isSource bad (whole b) s ≡ true = λ s h. sym (statusAt-surviving d bad status out day c s) ∙ eq-eqb _ 1 h in
+    let w = undo-table d bad status out c in
     rw q
     (record {
-      records = records-surviving b t (a .bytes) k bad ∙ ap (λ (g : ℕ → Bool). keep (λ w. g (txIn w)) (recordsOf b)) f;
-      chained = checks-chained (copy-checks b t (a .bytes) k bad);
-      itemCount = copy-items b t (a .bytes) k bad;
+      records = records-surviving d (a .bytes) k bad ∙ ap (λ (g : ℕ → Bool). keep (λ w. g (txIn w)) (recordsOf b)) f;
+      chained = checks-chained (copy-checks d (a .bytes) k bad);
+      itemCount = copy-items d (a .bytes) k bad;
       fields = λ i l h.
           subst (λ (g : ℕ → Bool). linkedTo 0 (recordAt (copy bad b) (lsnInCopy g b (suc i))) ≡ linkedTo 0 (recordAt b (suc i))) f
-          (same-record b t day bad i l (m (txIn (recordAt b (suc i))) h));
-      reads = λ i s x l o h. subst (λ (g : ℕ → Bool). SameRead g v (copy bad b) i s x) f (same-read b t day bad i s x l o (m s h));
-      size = ap length w ∙ left-length b t (a .bytes) k bad;
+          (same-record d day bad i l (m (txIn (recordAt b (suc i))) h));
+      reads = λ i s x l o h. subst (λ (g : ℕ → Bool). SameRead g d (copy bad b) i s x) f (same-read d day bad i s x l o (m s h));
+      size = ap length w ∙ left-length d (a .bytes) k bad;
       replay = λ x h.
-          ap (λ u. amountAt u x) w ∙ left-replayed b t bad x (omega (arith, table-length b t (k .table)))
-          ∙ ap (λ (g : ℕ → Bool). replayed g (openingAt v x) (whole b) x) f;
-      standing = λ x h. ap (λ u. amountAt u x) w ∙ left-amount b t (a .bytes) k bad x (omega (arith, table-length b t (k .table)));
+          ap (λ u. amountAt u x) w ∙ left-replayed d bad x (omega (arith, table-length b (d .table) (k .table)))
+          ∙ ap (λ (g : ℕ → Bool). replayed g (openingAt d x) (whole b) x) f;
+      standing = λ x h. ap (λ u. amountAt u x) w ∙ left-amount d (a .bytes) k bad x (omega (arith, table-length b (d .table) (k .table)));
     })
 
 -- ---- the empty list
 
-left-empty : (b : List ℕ) (t : List Amount) → Day (inputsOf b t) → tableLeft [] (inputsOf b t) ≡ t
+left-empty : (d : Inputs) → Day d → tableLeft [] d ≡ d .table
 unfolding tableLeft tableSurviving
-left-empty b t d =
-    let k = pass-checks b t (d .pass) in
-    let l = legal-day b t (d .bytes) k in
+left-empty d day =
+    let b = d .journal in
+    let t = d .table in
+    let k = pass-checks d (day .pass) in
+    let l = legal-day d (day .bytes) k in
     tabulate-ext _ (λ x. getD t x (pos 0)) 0 0 (length t)
     (λ x h. let e : 0 + x ≡ x = omega arith in
     rw e
-    (ap (λ (m : List ℕ). replayed (λ s. committed (whole b) s && not (member s m)) (openingAt (inputsOf b t) x) (whole b) x) (reached-empty isSource (whole b))
+    (ap (λ (m : List ℕ). replayed (λ s. committed (whole b) s && not (member s m)) (openingAt d x) (whole b) x) (reached-empty isSource (whole b))
     ∙ replayed-by _ (committed (whole b)) _ x (whole b) (λ u q. and-true (committed (whole b) u))
-    ∙ sym (finished-stand (openingAt (inputsOf b t)) (whole b) l (finished-inactive b (d .finished)) 0 (no-zero k) x)
-    ∙ table-stands b t k l x (omega (arith, table-length b t (k .table)))))
+    ∙ sym (finished-stand (openingAt d) (whole b) l (finished-inactive b (day .finished)) 0 (no-zero k) x)
+    ∙ table-stands d k l x (omega (arith, table-length b t (k .table)))))
     ∙ tabulate-getD t (pos 0)
   where
-    no-zero : Checks (inputsOf b t) → any (ofTx 0) (whole b) ≡ false
-    no-zero k = byCases (any (ofTx 0) (whole b)) (λ e. absurd (omega (arith, tx-range b (k .sound) 0 e .0))) (λ e. e)
+    no-zero : Checks d → any (ofTx 0) (whole (d .journal)) ≡ false
+    no-zero k = byCases (any (ofTx 0) (whole (d .journal))) (λ e. absurd (omega (arith, tx-range (d .journal) (k .sound) 0 e .0))) (λ e. e)
 
 loanAfter-same : {A : Type 0} (d : Option Refusal) (a : A) → loanAfter d a a ≡ a
 loanAfter-same none a = refl
@@ -216,7 +221,4 @@ loanAfter-same (some r) a = refl
 
 pub empty-list : EmptyList
 unfolding undo result tableLeft
-empty-list v status out d =
-    let b = v .journal in
-    let t = v .table in
-    rw (left-empty b t d) (loanAfter-same (decide (undoOrder (inputsOf b t) [] status out (length (copy [] b)))) t)
+empty-list d status out day = rw (left-empty d day) (loanAfter-same (decide (undoOrder d [] status out (length (copy [] (d .journal))))) (d .table))

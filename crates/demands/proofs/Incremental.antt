@@ -13,26 +13,26 @@ use Rattle.lists.specs.Search.{any, keep, member}
 use Rattle.lists.specs.Tables.{countIf}
 use Rattle.lists.proofs.BoolLaws.{byCases, or-cases, and-left, and-both, not-of-false}
 use Rattle.lists.proofs.MemberLaws.{member-append, member-keep}
-use Rattle.lists.proofs.TablesLaws.{number-ext, number-add, number-none}
-use Rattle.model.specs.History.{Amount, committed, aborted}
+use Rattle.lists.proofs.TablesLaws.{countIf-ext, countIf-add, countIf-none}
+use Rattle.model.specs.History.{committed, aborted}
 use Rattle.model.specs.Undo.{isSource, undone, surviving}
 use Rattle.model.proofs.Ends.{EndsLast}
 use Rattle.model.proofs.Strict.{legal-endsLast}
 use Rattle.model.proofs.Join.{surviving-less}
 use Rattle.model.proofs.Sets.{surviving-cong, undone-surviving, surviving-remaining}
-use Rattle.journal.specs.Inputs.{inputsOf}
+use Rattle.journal.specs.Inputs.{Inputs, handedOn}
 use Rattle.journal.specs.Journal.{whole}
 use Rattle.journal.specs.Orders.{undoOrder}
 use Rattle.journal.specs.Copy.{copy}
 use Rattle.journal.specs.Results.{totals}
-use Rattle.journal.specs.Calls.{Answer, refused, accepted, UndoTotals, UndoResult, undo, undoTotals, openingAt, tableLeft}
+use Rattle.journal.specs.Calls.{Answer, refused, accepted, UndoTotals, UndoResult, undo, undoTotals, openingAt}
 use Rattle.journal.proofs.Clear.{Clear}
 use Rattle.journal.proofs.Checked.{Checks}
 use Rattle.demands.specs.Days.{accepts, Day}
-use Rattle.demands.specs.Undoing.{copyIn, isUndone}
+use Rattle.demands.specs.Undoing.{leftBy, isUndone}
 use Rattle.demands.specs.Incremental.{UndoCall, AcceptedCall, UndoState, initialState, undoneBy, remaining, undoOn, undoStateAfter, runUndos, once, joined, timesUndone, sumOver, distinct-none, distinct-more, OnceDistinct, OnceJoins, SameAsOne, Incremental, IncrementalUndo}
 use Rattle.demands.proofs.Refusing.{untouched}
-use Rattle.demands.proofs.Left.{legal-day, copy-bytes, copy-checks, copy-ended}
+use Rattle.demands.proofs.Left.{repairedInputs, legal-day, copy-bytes, copy-checks, copy-ended}
 use Rattle.demands.proofs.DaysLaws.{pass-checks, checks-pass}
 use Rattle.demands.proofs.Undone.{clear-accepting, undo-table, undo-copy, undo-accepted, accepting-clear, accepted-clear}
 use Rattle.demands.proofs.Undoing.{acceptance, statusAt-undone}
@@ -40,7 +40,7 @@ use Rattle.demands.proofs.Join.{copy-same, left-same, undone-same, surv
 
 -- ---- lists
 
-pub member-once : (s : ℕ) (l : List ℕ) → member s (once l) ≡ member s l
+member-once : (s : ℕ) (l : List ℕ) → member s (once l) ≡ member s l
 unfolding once
 member-once s [] = refl
 member-once s (v ∷ l) =
@@ -58,73 +58,78 @@ keep-all : (l : List ℕ) → keep (λ s. true) l ≡ l
 keep-all [] = refl
 keep-all (s ∷ l) = ap (λ m. s ∷ m) (keep-all l)
 
-pub remaining-none : (l : List ℕ) → remaining [] l ≡ l
+remaining-none : (l : List ℕ) → remaining [] l ≡ l
 unfolding remaining
 remaining-none l = keep-all l
 
 -- ---- the invariant
 
-module _ (b : List ℕ) (t : List Amount) (day : Day (inputsOf b t)) where
-  checks : Checks (inputsOf b t)
-  checks = pass-checks b t (day .pass)
+module _ (v : Inputs) (day : Day v) where
+  abbrev b : List ℕ
+  b = v .journal
+
+  checks : Checks v
+  checks = pass-checks v (day .pass)
 
   ends : EndsLast (whole b)
-  ends = legal-endsLast (openingAt (inputsOf b t)) (whole b) (legal-day b t (day .bytes) checks)
+  ends = legal-endsLast (openingAt v) (whole b) (legal-day v (day .bytes) checks)
 
   -- the copy of a take-back with its table is a day
-  left-day : (l : List ℕ) → Day (inputsOf (copy l b) (tableLeft l (inputsOf b t)))
+  left-day : (l : List ℕ) → Day (repairedInputs l v)
   left-day l =
       record {
-        bytes = copy-bytes b t (day .bytes) checks l;
-        pass = checks-pass (copy l b) (tableLeft l (inputsOf b t)) (copy-checks b t (day .bytes) checks l);
-        finished = copy-ended b t (day .bytes) checks l;
+        bytes = copy-bytes v (day .bytes) checks l;
+        pass = checks-pass _ (copy-checks v (day .bytes) checks l);
+        finished = copy-ended v (day .bytes) checks l;
       }
 
-  -- after accepted calls, the newest first, with lists that join to l
-  record AsOne (l : List ℕ) (c : UndoState) (d : AcceptedCall) : Type 0 where
+  -- the accepted calls ds, the newest of them d, with lists that join to l
+  record AsOne (l : List ℕ) (ds : List AcceptedCall) (d : AcceptedCall) : Type 0 where
     names : (s : ℕ) → member s l ≡ true → committed (whole b) s ≡ true
-    journal : c .inputs .journal ≡ copy l b
-    table : c .inputs .table ≡ tableLeft l (inputsOf b t)
-    undoneSet : (s : ℕ) → any (undoneBy s) (c .calls) ≡ undone isSource l (whole b) s
-    each : (s : ℕ) → timesUndone s (c .calls) ≡ cond (undone isSource l (whole b) s) 1 0
+    undoneSet : (s : ℕ) → any (undoneBy s) ds ≡ undone isSource l (whole b) s
+    each : (s : ℕ) → timesUndone s ds ≡ cond (undone isSource l (whole b) s) 1 0
     surviving : d .counts .surviving ≡ countIf (surviving isSource l (whole b)) 1 1024
-    undone : sumOver (λ k. k .undone) (c .calls) ≡ countIf (undone isSource l (whole b)) 1 1024
-    aborted : sumOver (λ k. k .aborted) (c .calls) ≡ countIf (aborted (whole b)) 1 1024
+    undone : sumOver (λ k. k .undone) ds ≡ countIf (undone isSource l (whole b)) 1 1024
+    aborted : sumOver (λ k. k .aborted) ds ≡ countIf (aborted (whole b)) 1 1024
+
+  -- what they leave: the copy and the table of the one call
+  abbrev stateAfter : List AcceptedCall → UndoState
+  stateAfter ds = record { inputs = repairedInputs (joined ds) v; calls = ds }
 
   data Inv : UndoState → Type 0 where
-    none : Inv (initialState (inputsOf b t))
-    some : {j : List ℕ} {u : List Amount} (d : AcceptedCall) (ds : List AcceptedCall) → AsOne (joined (d ∷ ds)) (record { inputs = inputsOf j u; calls = d ∷ ds }) d
-        → Inv (record { inputs = inputsOf j u; calls = d ∷ ds })
-
-  inv-day : (c : UndoState) → Inv c → Day (c .inputs)
-  inv-day c none = day
-  inv-day c (some d ds h) = rw (h .journal, h .table) (left-day (joined (d ∷ ds)))
+    none : Inv (initialState v)
+    some : (d : AcceptedCall) (ds : List AcceptedCall) → AsOne (joined (d ∷ ds)) (d ∷ ds) d → Inv (stateAfter (d ∷ ds))
 
   -- the first accepted call
-  inv-first : (l status out : List ℕ) → Clear (undoOrder (inputsOf b t) l status out (length (copy l b)))
-      → Inv (undoStateAfter (initialState (inputsOf b t)) (record { bad = l; status = status; out = out }) (undo (inputsOf b t) l status out) (accepted (undoTotals l b)))
-  unfolding joined timesUndone sumOver undoTotals totals
-  inv-first l status out c =
-      let e : l ++ [] ≡ l = append-nil l in
-      some {j = copyIn (undo (inputsOf b t) l status out) (undoTotals l b)} {u = undo (inputsOf b t) l status out .table} (record { given = l; status = undo (inputsOf b t) l status out .status; counts = undoTotals l b }) []
-      (rw e
-      (record {
-        names = clear-accepting b t l status out c .names;
-        journal = undo-copy b t l status out c;
-        table = undo-table b t l status out c;
-        undoneSet = λ s. or-false _ ∙ statusAt-undone b t l status out day c s;
-        each = λ s. ap (λ k. cond k 1 0) (statusAt-undone b t l status out day c s);
-        surviving = refl;
-        undone = add-zero _;
-        aborted = add-zero _;
-      }))
+  module _ (l status out : List ℕ) (clear : Clear (undoOrder v l status out (length (copy l b)))) where
+    abbrev call : AcceptedCall
+    call = record { given = l; status = undo v l status out .status; counts = undoTotals l b }
+
+    first-inputs : leftBy v (undo v l status out) (undoTotals l b) ≡ repairedInputs (l ++ []) v
+    first-inputs = rw (append-nil l) (λ i. handedOn (undo-copy v l status out clear i) (undo-table v l status out clear i) v)
+
+    inv-first : Inv (record { inputs = leftBy v (undo v l status out) (undoTotals l b); calls = call ∷ [] })
+    unfolding joined timesUndone sumOver undoTotals totals
+    inv-first =
+        let e : l ++ [] ≡ l = append-nil l in
+        rw first-inputs
+        (some call []
+        (rw e
+        (record {
+          names = clear-accepting v l status out clear .names;
+          undoneSet = λ s. or-false _ ∙ statusAt-undone v l status out day clear s;
+          each = λ s. ap (λ k. cond k 1 0) (statusAt-undone v l status out day clear s);
+          surviving = refl;
+          undone = add-zero _;
+          aborted = add-zero _;
+        })))
 
   -- a later one: l comes to the lists a of before, with the names struck that they took back
-  module _ (a l : List ℕ) (c : UndoState) (d : AcceptedCall) (h : AsOne a c d) where
+  module _ (a l : List ℕ) (ds : List AcceptedCall) (d : AcceptedCall) (h : AsOne a ds d) where
     abbrev rest : List ℕ
-    rest = remaining (c .calls) l
+    rest = remaining ds l
 
-    rest-is : remaining (c .calls) l ≡ keep (λ s. not (undone isSource a (whole b) s)) l
+    rest-is : remaining ds l ≡ keep (λ s. not (undone isSource a (whole b) s)) l
     unfolding remaining
     rest-is = ap (λ (f : ℕ → Bool). keep (λ s. not (f s)) l) (fun-ext (h .undoneSet))
 
@@ -139,7 +144,7 @@ module _ (b : List ℕ) (t : List Amount) (day : Day (inputsOf b t)) where
 
     -- taken back by the later call
     new : (s : ℕ) → undone isSource rest (whole (copy a b)) s ≡ surviving isSource a (whole b) s && not (surviving isSource (l ++ a) (whole b) s)
-    new s = undone-second b t (day .bytes) checks a rest s ∙ ap (λ k. surviving isSource a (whole b) s && not k) (surviving-both s)
+    new s = undone-second v (day .bytes) checks a rest s ∙ ap (λ k. surviving isSource a (whole b) s && not k) (surviving-both s)
 
     -- taken back by one call or the other: by the one call; and never by both
     together : (s : ℕ) → undone isSource (l ++ a) (whole b) s ≡ undone isSource rest (whole (copy a b)) s || undone isSource a (whole b) s
@@ -164,39 +169,46 @@ module _ (b : List ℕ) (t : List Amount) (day : Day (inputsOf b t)) where
         go true k f = rw f
         go false k f = refl
 
-    module _ (status out : List ℕ) (clear : Clear (undoOrder (inputsOf (copy a b) (tableLeft a (inputsOf b t))) rest status out (length (copy rest (copy a b))))) where
+    module _ (status out : List ℕ) (clear : Clear (undoOrder (repairedInputs a v) rest status out (length (copy rest (copy a b))))) where
       abbrev r : UndoResult
-      r = undo (inputsOf (copy a b) (tableLeft a (inputsOf b t))) rest status out
+      r = undo (repairedInputs a v) rest status out
 
       statuses-new : (s : ℕ) → isUndone r s ≡ undone isSource rest (whole (copy a b)) s
-      statuses-new s = statusAt-undone (copy a b) (tableLeft a (inputsOf b t)) rest status out (left-day a) clear s
+      statuses-new s = statusAt-undone (repairedInputs a v) rest status out (left-day a) clear s
 
       known : (s : ℕ) → member s l ≡ true → committed (whole b) s ≡ true
       unfolding remaining
       known s m =
-          byCases (any (undoneBy s) (c .calls))
+          byCases (any (undoneBy s) ds)
           (λ e. and-left (committed (whole b) s) _ (sym (h .undoneSet s) ∙ e))
           (λ e.
-          let i : member s rest ≡ true = member-keep (λ v. not (any (undoneBy v) (c .calls))) s l ∙ and-both _ _ (not-of-false _ e) m in
-          let k = clear-accepting (copy a b) (tableLeft a (inputsOf b t)) rest status out clear .names s i in
-          and-left (committed (whole b) s) _ (sym (committed-second b t (day .bytes) checks a rest s) ∙ k))
+          let i : member s rest ≡ true = member-keep (λ v. not (any (undoneBy v) ds)) s l ∙ and-both _ _ (not-of-false _ e) m in
+          let k = clear-accepting (repairedInputs a v) rest status out clear .names s i in
+          and-left (committed (whole b) s) _ (sym (committed-second v (day .bytes) checks a rest s) ∙ k))
 
       sums : (f g k m : ℕ) → f + k ≡ m → g ≡ k → f + g ≡ m
       sums f g k m e q = omega arith
 
-      inv-later : AsOne (l ++ a) (undoStateAfter c (record { bad = l; status = status; out = out }) r (accepted (undoTotals rest (copy a b)))) (record { given = l; status = r .status; counts = undoTotals rest (copy a b) })
+      abbrev laterCall : AcceptedCall
+      laterCall = record { given = l; status = r .status; counts = undoTotals rest (copy a b) }
+
+      later-inputs : leftBy (repairedInputs a v) r (undoTotals rest (copy a b)) ≡ repairedInputs (l ++ a) v
+      later-inputs =
+          let j = undo-copy (repairedInputs a v) rest status out clear ∙ copy-second v (day .bytes) checks a rest ∙ copy-same b (a ++ rest) (l ++ a) surviving-both in
+          let t = undo-table (repairedInputs a v) rest status out clear ∙ left-second v (day .bytes) checks a rest ∙ left-same v (a ++ rest) (l ++ a) surviving-both in
+          λ i. handedOn (j i) (t i) v
+
+      as-later : AsOne (l ++ a) (laterCall ∷ ds) laterCall
       unfolding timesUndone sumOver undoTotals totals
-      inv-later =
+      as-later =
           record {
             names = λ s m. or-cases (member s l) (member s a) (sym (member-append s l a) ∙ m) (known s) (h .names s);
-            journal = undo-copy (copy a b) (tableLeft a (inputsOf b t)) rest status out clear ∙ copy-second b t (day .bytes) checks a rest ∙ copy-same b (a ++ rest) (l ++ a) surviving-both;
-            table = undo-table (copy a b) (tableLeft a (inputsOf b t)) rest status out clear ∙ left-second b t (day .bytes) checks a rest ∙ left-same b (a ++ rest) (l ++ a) surviving-both t;
             undoneSet = λ s. rw (statuses-new s, h .undoneSet s) (sym (together s));
             each = λ s. rw (statuses-new s, h .each s, together s) (go (undone isSource rest (whole (copy a b)) s) (undone isSource a (whole b) s) (apart s));
-            surviving = number-ext _ _ 1 1 1024 (λ k i. surviving-second b t (day .bytes) checks a rest (1 + k) ∙ surviving-both (1 + k));
-            undone = sums _ _ _ _ (number-add (undone isSource rest (whole (copy a b))) (undone isSource a (whole b)) (undone isSource (l ++ a) (whole b)) 1 1024 together apart) (h .undone);
-            aborted = ap (λ n. n + sumOver (λ k. k .aborted) (c .calls)) (number-none (aborted (whole (copy a b))) 1 1024 (aborted-second b t (day .bytes) checks a rest))
-                ∙ zero-add (sumOver (λ k. k .aborted) (c .calls)) ∙ h .aborted;
+            surviving = countIf-ext _ _ 1 1 1024 (λ k i. surviving-second v (day .bytes) checks a rest (1 + k) ∙ surviving-both (1 + k));
+            undone = sums _ _ _ _ (countIf-add (undone isSource rest (whole (copy a b))) (undone isSource a (whole b)) (undone isSource (l ++ a) (whole b)) 1 1024 together apart) (h .undone);
+            aborted = ap (λ n. n + sumOver (λ k. k .aborted) ds) (countIf-none (aborted (whole (copy a b))) 1 1024 (aborted-second v (day .bytes) checks a rest))
+                ∙ zero-add (sumOver (λ k. k .aborted) ds) ∙ h .aborted;
           }
         where
           go : (f g : Bool) → (f ≡ true → g ≡ false) → cond f (suc (cond g 1 0)) (cond g 1 0) ≡ cond (f || g) 1 0
@@ -219,29 +231,25 @@ module _ (b : List ℕ) (t : List Amount) (day : Day (inputsOf b t)) where
       go (refused n p) e = rw (untouched .undo (c .inputs) (remaining (c .calls) (k .bad)) (k .status) (k .out) (ap accepts e) .0) f
       go (accepted n) e = g n e
 
-  inv-after : (j : List ℕ) (u : List Amount) (d : AcceptedCall) (ds : List AcceptedCall) (h : AsOne (joined (d ∷ ds)) (record { inputs = inputsOf j u; calls = d ∷ ds }) d) (k : UndoCall) (n : UndoTotals)
-      → undo (inputsOf (copy (joined (d ∷ ds)) b) (tableLeft (joined (d ∷ ds)) (inputsOf b t))) (remaining (d ∷ ds) (k .bad)) (k .status) (k .out) .answer ≡ accepted n
-      → Inv (undoStateAfter (record { inputs = inputsOf j u; calls = d ∷ ds }) k (undoOn (record { inputs = inputsOf j u; calls = d ∷ ds }) k) (accepted n))
+  inv-after : (d : AcceptedCall) (ds : List AcceptedCall) → AsOne (joined (d ∷ ds)) (d ∷ ds) d → (k : UndoCall) (n : UndoTotals)
+      → undoOn (stateAfter (d ∷ ds)) k .answer ≡ accepted n
+      → Inv (undoStateAfter (stateAfter (d ∷ ds)) k (undoOn (stateAfter (d ∷ ds)) k) (accepted n))
   unfolding joined
-  inv-after j u d ds h k n e =
+  inv-after d ds h k n e =
       let a : List ℕ = joined (d ∷ ds) in
       let (clear, m) = accepted-clear (record { bytes = left-day a .bytes; answer = e }) in
-      let r : UndoResult = undo (inputsOf (copy a b) (tableLeft a (inputsOf b t))) (remaining (d ∷ ds) (k .bad)) (k .status) (k .out) in
-      let w : UndoTotals = undoTotals (remaining (d ∷ ds) (k .bad)) (copy a b) in
-      rw (h .journal, h .table, ← m)
-      (some {j = copyIn r w} {u = r .table} (record { given = k .bad; status = r .status; counts = w }) (d ∷ ds)
-      (inv-later a (k .bad) (record { inputs = inputsOf j u; calls = d ∷ ds }) d h (k .status) (k .out) clear))
+      rw (← m, later-inputs a (k .bad) (d ∷ ds) d h (k .status) (k .out) clear)
+      (some (laterCall a (k .bad) (d ∷ ds) d h (k .status) (k .out) clear) (d ∷ ds) (as-later a (k .bad) (d ∷ ds) d h (k .status) (k .out) clear))
 
   inv-call : (c : UndoState) (k : UndoCall) → Inv c → Inv (undoStateAfter c k (undoOn c k) (undoOn c k .answer))
   inv-call c k none =
-      by-answer (initialState (inputsOf b t)) k Inv none
+      by-answer (initialState v) k Inv none
       (λ n e.
       let q = remaining-none (k .bad) in
-      let e' : undo (inputsOf b t) (k .bad) (k .status) (k .out) .answer ≡ accepted n = rw q at e in
+      let e' : undo v (k .bad) (k .status) (k .out) .answer ≡ accepted n = rw q at e in
       let (clear, m) = accepted-clear (record { bytes = day .bytes; answer = e' }) in
       rw (q, ← m) (inv-first (k .bad) (k .status) (k .out) clear))
-  inv-call c k (some {j} {u} d ds h) =
-      by-answer (record { inputs = inputsOf j u; calls = d ∷ ds }) k Inv (some d ds h) (λ n e. inv-after j u d ds h k n (rw (h .journal, h .table) at e))
+  inv-call c k (some d ds h) = by-answer (stateAfter (d ∷ ds)) k Inv (some d ds h) (λ n e. inv-after d ds h k n e)
 
   inv-run : (c : UndoState) (ks : List UndoCall) → Inv c → Inv (runUndos c ks)
   unfolding runUndos
@@ -251,41 +259,42 @@ module _ (b : List ℕ) (t : List Amount) (day : Day (inputsOf b t)) where
   -- ---- beside the one call
 
   -- a list m with the members of a, in one call
-  one-call : (a m : List ℕ) (c : UndoState) (d : AcceptedCall) → AsOne a c d → ((s : ℕ) → member s m ≡ member s a) → (status out : List ℕ) → length status ≡ 1025
-      → length (copy m b) ≤ length out → (n : UndoTotals) × SameAsOne c d (undo (inputsOf b t) m status out) n
+  one-call : (m : List ℕ) (d : AcceptedCall) (ds : List AcceptedCall) → AsOne (joined (d ∷ ds)) (d ∷ ds) d → ((s : ℕ) → member s m ≡ member s (joined (d ∷ ds)))
+      → (status out : List ℕ) → length status ≡ 1025 → length (copy m b) ≤ length out → (n : UndoTotals) × SameAsOne (stateAfter (d ∷ ds)) d (undo v m status out) n
   unfolding undoTotals totals
-  one-call a m c d h members status out size fits =
+  one-call m d ds h members status out size fits =
+      let a : List ℕ = joined (d ∷ ds) in
       let same : (s : ℕ) → surviving isSource m (whole b) s ≡ surviving isSource a (whole b) s = surviving-cong isSource m a members (whole b) in
-      let clear = accepting-clear b t m status out checks (day .finished)
-      (record { names = λ s i. h .names s (sym (members s) ∙ i); statuses = size; holds = fits }) in (
+      let clear = accepting-clear v m status out checks (day .finished)
+      (record { names = λ s i. h .names s (sym (members s) ∙ i); statusLength = size; capacity = fits }) in (
         undoTotals m b,
         record {
-          answer = undo-accepted b t m status out clear;
-          statuses = λ s. h .each s ∙ ap (λ k. cond k 1 0) (sym (statusAt-undone b t m status out day clear s ∙ undone-same b m a same s));
-          table = h .table ∙ sym (undo-table b t m status out clear ∙ left-same b m a same t);
-          copy = h .journal ∙ sym (undo-copy b t m status out clear ∙ copy-same b m a same);
-          surviving = h .surviving ∙ sym (number-ext _ _ 1 1 1024 (λ k i. same (1 + k)));
-          undone = h .undone ∙ sym (number-ext _ _ 1 1 1024 (λ k i. undone-same b m a same (1 + k)));
+          answer = undo-accepted v m status out clear;
+          undoneOnce = λ s. h .each s ∙ ap (λ k. cond k 1 0) (sym (statusAt-undone v m status out day clear s ∙ undone-same b m a same s));
+          table = sym (undo-table v m status out clear ∙ left-same v m a same);
+          copy = sym (undo-copy v m status out clear ∙ copy-same b m a same);
+          surviving = h .surviving ∙ sym (countIf-ext _ _ 1 1 1024 (λ k i. same (1 + k)));
+          undone = h .undone ∙ sym (countIf-ext _ _ 1 1 1024 (λ k i. undone-same b m a same (1 + k)));
           aborted = h .aborted;
         },
       )
 
-  incremental : (c : UndoState) → Inv c → Incremental (inputsOf b t) c
+  incremental : (c : UndoState) → Inv c → Incremental v c
   incremental c none =
       record {
-        acceptance = λ k. acceptance (inputsOf b t) (remaining [] (k .bad)) (k .status) (k .out) day;
-        unchanged = λ e. refl;
+        acceptance = λ k. acceptance v (remaining [] (k .bad)) (k .status) (k .out) day;
+        noneAccepted = λ e. refl;
         one = λ d ds e. absurd (nil≢cons e);
       }
-  incremental c (some {j} {u} d ds h) =
+  incremental c (some d ds h) =
       record {
-        acceptance = λ k. acceptance (inputsOf j u) (remaining (d ∷ ds) (k .bad)) (k .status) (k .out) (inv-day _ (some d ds h));
-        unchanged = λ e. absurd (nil≢cons (sym e));
-        one = λ d' ds' e m status out q size fits. rw (← head-eq-of-cons-eq e) (one-call (joined (d ∷ ds)) m _ d h q status out size fits);
+        acceptance = λ k. acceptance (repairedInputs (joined (d ∷ ds)) v) (remaining (d ∷ ds) (k .bad)) (k .status) (k .out) (left-day (joined (d ∷ ds)));
+        noneAccepted = λ e. absurd (nil≢cons (sym e));
+        one = λ d' ds' e m status out q size fits. rw (← head-eq-of-cons-eq e) (one-call m d ds h q status out size fits);
       }
 
 pub incremental-undo : IncrementalUndo
-incremental-undo d calls day = incremental (d .journal) (d .table) day (runUndos (initialState d) calls) (inv-run (d .journal) (d .table) day (initialState d) calls none)
+incremental-undo d calls day = incremental d day (runUndos (initialState d) calls) (inv-run d day (initialState d) calls none)
 
 pub once-joins : OnceJoins
 once-joins ds s = member-once s (joined ds)

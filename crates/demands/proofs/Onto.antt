@@ -21,7 +21,7 @@ use Rattle.format.specs.Layout.{recordAt}
 use Rattle.format.proofs.LayoutLaws.{recordAt-fitting}
 use Rattle.model.specs.History.{Amount, writeTo, initial}
 use Rattle.model.specs.Undo.{replayed}
-use Rattle.journal.specs.Inputs.{Inputs, inputsOf}
+use Rattle.journal.specs.Inputs.{Inputs, onto}
 use Rattle.journal.specs.Journal.{count, txIn, opOf, history, whole, amountAt}
 use Rattle.journal.specs.Refusals.{truncated, countsByKind}
 use Rattle.journal.specs.Copy.{linkedTo}
@@ -64,14 +64,16 @@ module _ (b : List ℕ) (bytes : Bytes b) where
       (byCases (eqb x (r .item .0) && k (txIn r)) (λ q. rw q (recordAt-fitting bytes (suc n) .after)) (λ q. rw q i))
       i i i
 
-  pub left-amounts : (t : List Amount) → Checks (inputsOf b t) → (bad : List ℕ) → Amounts t → Amounts (tableLeft bad (inputsOf b t))
-  unfolding openingAt whole
-  left-amounts t ok bad a =
-      amounts-all (tableLeft bad (inputsOf b t)) (λ x.
-      byCases (ltb x (length t))
-      (λ l. rw (left-replayed b t bad x (ltb-true x (length t) l)) (replayed-fits _ (count b) x _ (initial-fits (count b) x _ (amounts-fit a x))))
-      (λ l. let g = ltb-false x (length t) l in
-      rw (List·getD-eq-default (tableLeft bad (inputsOf b t)) (pos 0) {n = x} (omega (arith, left-length b t bytes ok bad))) (record { sfits = omega arith })))
+left-amounts : (d : Inputs) → Bytes (d .journal) → Checks d → (bad : List ℕ) → Amounts (d .table) → Amounts (tableLeft bad d)
+unfolding openingAt whole
+left-amounts d bytes ok bad a =
+    let b = d .journal in
+    let n = length (d .table) in
+    amounts-all (tableLeft bad d) (λ x.
+    byCases (ltb x n)
+    (λ l. rw (left-replayed d bad x (ltb-true x n l)) (replayed-fits b bytes _ (count b) x _ (initial-fits b bytes (count b) x _ (amounts-fit a x))))
+    (λ l. let g = ltb-false x n l in
+    rw (List·getD-eq-default (tableLeft bad d) (pos 0) {n = x} (omega (arith, left-length d bytes ok bad))) (record { sfits = omega arith })))
 
 -- a list is as long as its front, or longer
 front-length : (n : ℕ) (l : List ℕ) → length (take n l) ≤ length l
@@ -82,29 +84,29 @@ copy-agree : {d : Inputs} {out : List ℕ} {r : UndoResult} {n : UndoTotals} →
 unfolding truncated
 copy-agree {r = r} {n} l c e =
     let j = copyIn r n in
-    let whole : 20 * (count j + 1) ≤ length j = ltb-false _ _ (pass-checks j (r .table) (l .day .pass) .sound .full) in
+    let whole : 20 * (count j + 1) ≤ length j = ltb-false _ _ (pass-checks _ (l .day .pass) .sound .full) in
     record {
-      left = whole;
-      right = omega (arith, front-length (n .bytes) c, ap length e);
+      firstLong = whole;
+      secondLong = omega (arith, front-length (n .bytes) c, ap length e);
       same = rw (← l .size) (take-take (n .bytes) (n .bytes) (r .out) (omega arith) ∙ sym e);
     }
 
-opening-agree : (b c : List ℕ) → Agree b c → (t : List Amount) → openingTable (inputsOf c t) ≡ openingTable (inputsOf b t)
+opening-agree : (d : Inputs) (c : List ℕ) → Agree (d .journal) c → openingTable (onto c d) ≡ openingTable d
 unfolding openingTable openingAt
-opening-agree b c g t = ap (λ j. tabulate (λ x. initial (amountAt t x) j x) 0 (length t)) (sym (whole-agree b c g))
+opening-agree d c g = ap (λ j. tabulate (λ x. initial (amountAt (d .table) x) j x) 0 (length (d .table))) (sym (whole-agree (d .journal) c g))
 
 pub appended-after : AppendedAfter
-appended-after v bad status out n a amounts c kc e ps gs =
-    let r : UndoResult = undo v bad status out in
-    let l = left-passes v bad status out n a in
+appended-after d bad status out n a amounts c kc e ps gs =
+    let r : UndoResult = undo d bad status out in
+    let l = left-passes d bad status out n a in
     let g = copy-agree l c e in
-    let k = pass-checks (v .journal) (v .table) (accepted-day a .pass) in
-    let ready : AppendReady (repairedState r n c) = record {
+    let k = pass-checks d (accepted-day a .pass) in
+    let ready : AppendReady (repairedState d r n c) = record {
       bytes = kc;
-      amounts = rw (undo-table (v .journal) (v .table) bad status out (accepted-clear a .0)) (left-amounts (v .journal) (a .bytes) (v .table) k bad amounts);
-      pass = rw (← behind .check (leftBy v r n) c g) (l .day .pass);
+      amounts = rw (undo-table d bad status out (accepted-clear a .0)) (left-amounts d (a .bytes) k bad amounts);
+      pass = rw (← behind .check (leftBy d r n) c g) (l .day .pass);
       counts = ap countsByKind (whole-agree (copyIn r n) c g);
     } in
-    let w = appended-onto (repairedState r n c) ps ready gs in
-    let same : openingTable (inputsOf c (r .table)) ≡ openingTable v = opening-agree (copyIn r n) c g (r .table) ∙ l .opening in
+    let w = appended-onto (repairedState d r n c) ps ready gs in
+    let same : openingTable (repairedState d r n c .inputs) ≡ openingTable d = opening-agree (leftBy d r n) c g ∙ l .opening in
     rw (ap (map (linkedTo 0)) (records-agree (copyIn r n) c g), ← same) w

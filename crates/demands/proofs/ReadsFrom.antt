@@ -2,7 +2,7 @@
 -- Assumes nothing.
 use mathlib.Core.Path.{_≡_, refl, ap, _∙_}
 use mathlib.Core.Bool.{Bool, true, false, not, _&&_, and-true}
-use mathlib.Core.List.{List, [], _∷_, head-eq-of-cons-eq}
+use mathlib.Core.List.{[], _∷_, head-eq-of-cons-eq}
 use mathlib.Core.Option.{Option, none, some, Option·none-ne-some, Option·some-injective}
 use Prim.Native.Nat.{ℕ, _≤_}
 use native.Mathlib.Omega.{arith}
@@ -21,7 +21,7 @@ use Rattle.model.proofs.Strict.{legal-endsLast, Alone, alone-read}
 use Rattle.model.proofs.Repair.{legal-ends}
 use Rattle.model.proofs.Opening.{opening, legal-passing}
 use Rattle.model.proofs.Extension.{legal-at}
-use Rattle.journal.specs.Inputs.{inputsOf}
+use Rattle.journal.specs.Inputs.{Inputs}
 use Rattle.journal.specs.Journal.{whole, amountAt}
 use Rattle.journal.proofs.Passing.{passing-whole}
 use Rattle.demands.specs.Days.{Pass}
@@ -134,11 +134,12 @@ latest-sources g x (commit t v ∷ p) = latest-sources g x p
 latest-sources g x (abort t v ∷ p) = latest-sources g x p
 latest-sources g x (other t v ∷ p) = latest-sources g x p
 
-readsFrom-papers : (b : List ℕ) (t : List Amount) → Pass (inputsOf b t) → (i : Tag) (s x : ℕ) (p : History) → Upto (read i s x ∷ p) (whole b)
+readsFrom-papers : (d : Inputs) → Pass d → (i : Tag) (s x : ℕ) (p : History) → Upto (read i s x ∷ p) (whole (d .journal))
     → readsFrom isSource p s x ≡ lastUnaborted p x
-readsFrom-papers b t e i s x p u =
-    let o : ℕ → Amount = opening (amountAt t) (whole b) in
-    let k : Legal o (whole b) = legal-passing (amountAt t) (whole b) (passing-whole b (pass-checks b t e .sound)) in
+readsFrom-papers d e i s x p u =
+    let b = d .journal in
+    let o : ℕ → Amount = opening (amountAt (d .table)) (whole b) in
+    let k : Legal o (whole b) = legal-passing (amountAt (d .table)) (whole b) (passing-whole b (pass-checks d e .sound)) in
     let l = legal-at o k u in
     readsFrom-by isSource (λ v. not (aborted p v)) p s x
     (visibleTo-unaborted o p s x (legal-endsLast o p (legal-ends o k (tail-ends u))) (l .notTerminated) (alone-read o x i s p l))
@@ -156,5 +157,5 @@ reads-from =
         none-source p s x,
         λ n. by-readsFrom p s x (λ o. o ≡ none) (λ e. refl) (λ v e. let k = readsFrom-highest p s x v e in absurd (n v (k .earlier) (k .there) (k .source))),
       );
-      papers = λ d. readsFrom-papers (d .journal) (d .table);
+      papers = readsFrom-papers;
     }

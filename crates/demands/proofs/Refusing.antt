@@ -9,25 +9,26 @@ use Prim.Native.Nat.{ℕ, zero, suc, _+_, _<_, _≤_}
 use native.Mathlib.Omega.{arith}
 use lib.ListN.{length, getD}
 use borrow.Author.Tests.{ltb-true}
+use Rattle.lists.specs.Search.{member}
 use Rattle.lists.proofs.BoolLaws.{byCases, clash}
 use Rattle.format.specs.declared.Record.{Record}
 use Rattle.model.specs.History.{Amount}
-use Rattle.journal.specs.Inputs.{inputsOf}
+use Rattle.journal.specs.Inputs.{Inputs}
 use Rattle.journal.specs.Journal.{count, items}
-use Rattle.journal.specs.Refusals.{RecordCounts, badHead, wrongTable, unsettled, stillActive, unknown, absent, tooShort, wrongStatus}
+use Rattle.journal.specs.Refusals.{RecordCounts, wrongCounts, wrongTable, unsettled, stillActive, unknown, absent, tooShort, wrongStatus}
 use Rattle.journal.specs.Orders.{Refusal, Trial, Order, try, tryEach, decide, openOrder, tableOrder, recordOrder, recordsOrder, settledOrder, activeOrder, knownOrder, presentOrder, statusOrder, capacityOrder, countsOrder, newOrder, startOrder, checkOrder, chainOrder, appendOrder, undoOrder}
 use Rattle.journal.specs.Copy.{copy}
 use Rattle.journal.specs.Results.{result}
 use Rattle.journal.specs.Calls.{refused, answered, start, check, chainOf, chain, newRecord, append, countRecords, undo}
-use Rattle.journal.proofs.Clear.{All, all-more, all-turns, all-try, all-each, all-tried, decide-all, decide-clear}
+use Rattle.journal.proofs.Clear.{All, Clear, all-more, all-turns, all-try, all-each, all-tried, decide-all, decide-clear}
 use Rattle.journal.proofs.Deciding.{NumberIn, Label, Labels, tryLabel, eachLabel, all-labels, Says, says-turn, elsewhere, stage-decides, each-place, tried-lowest}
 use Rattle.journal.proofs.Answered.{refused-only}
 use Rattle.journal.proofs.Checked.{open-all, access-all, rule-all, record-all, new-all, clear-checks}
 use Rattle.journal.proofs.Passing.{head-facts}
-use Rattle.journal.proofs.OrdersLaws.{decide-turn-some, decide-cases}
+use Rattle.journal.proofs.OrdersLaws.{try-holds, decide-turn-some, decide-cases}
 use Rattle.demands.proofs.CopyLaws.{copy-most}
 use Rattle.demands.proofs.DaysLaws.{answered-some}
-use Rattle.demands.specs.Refusing.{Answers, worked-through, refused-by, startNumbers, countNumbers, chainNumbers, appendNumbers, undoNumbers, Answered, First, here, later, Exactly, Unopened, by-short, by-truncated, by-head, Unsound, by-unopened, by-malformed, by-chain, by-terminated, by-conflict, by-blind, by-before, CheckRefused, by-unsound, by-table, by-final-state, StartRefused, by-bytes, by-items, ChainRefused, unsound-chain, by-absent, by-list, AppendRefused, check-append, by-counts, new-malformed, new-terminated, new-conflict, new-blind, by-room, UndoRefused, check-undo, by-active, by-status, by-unknown, by-capacity, OnlyUnder, LowestRecord, Untouched, Lowest, LowestPlace, Enough}
+use Rattle.demands.specs.Refusing.{Answers, worked-through, refused-by, startNumbers, checkNumbers, countNumbers, chainNumbers, appendNumbers, undoNumbers, Answered, First, here, later, Exactly, Unopened, by-short, by-truncated, by-head, Unsound, by-unopened, by-malformed, by-chain, by-terminated, by-conflict, by-blind, by-before, CheckRefused, by-unsound, by-table, by-final-state, StartRefused, by-bytes, by-items, ChainRefused, unsound-chain, by-absent, by-list, AppendRefused, check-append, by-counts, new-malformed, new-terminated, new-conflict, new-blind, by-room, UndoRefused, check-undo, by-active, by-status, by-unknown, by-capacity, OnlyUnder, LowestRecord, Untouched, Lowest, LowestPlace, Enough}
 
 -- ---- answers
 
@@ -91,16 +92,16 @@ records-means : (b : List ℕ) → All (Means (Unsound b)) (recordsOrder b)
 unfolding recordsOrder
 records-means b = all-each (Means (Unsound b)) (recordOrder b) 1 (count b) (record-means b)
 
-check-means : (b : List ℕ) (t : List Amount) → All (Means (CheckRefused (inputsOf b t))) (checkOrder (inputsOf b t))
+check-means : (d : Inputs) → All (Means (CheckRefused d)) (checkOrder d)
 unfolding checkOrder tableOrder settledOrder
-check-means b t =
-    let M = Means (CheckRefused (inputsOf b t)) in
+check-means d =
+    let M = Means (CheckRefused d) in
     all-turns M _ (
-      means-more (λ n p u. by-unsound (by-unopened u)) (open-means b),
+      means-more (λ n p u. by-unsound (by-unopened u)) (open-means (d .journal)),
       (
         all-try M 3 0 _ by-table,
         (
-          means-more (λ n p. by-unsound) (records-means b),
+          means-more (λ n p. by-unsound) (records-means (d .journal)),
           (all-tried M 10 _ _ _ (λ x l m. by-final-state (omega arith)), tt),
         ),
       ),
@@ -125,24 +126,24 @@ chain-means b s l =
       ),
     )
 
-append-means : (b : List ℕ) (t : List Amount) (c : RecordCounts) (r : Record) → All (Means (AppendRefused (inputsOf b t) c r)) (appendOrder (inputsOf b t) c r)
+append-means : (d : Inputs) (c : RecordCounts) (r : Record) → All (Means (AppendRefused d c r)) (appendOrder d c r)
 unfolding appendOrder countsOrder
-append-means b t c r =
-    let M = Means (AppendRefused (inputsOf b t) c r) in
+append-means d c r =
+    let M = Means (AppendRefused d c r) in
     all-turns M _ (
-      means-more (λ n p. check-append) (check-means b t),
+      means-more (λ n p. check-append) (check-means d),
       (
         all-try M 15 0 _ by-counts,
-        (new-all M b r new-malformed (access-all M _ _ _ new-terminated new-conflict new-blind) by-room, tt),
+        (new-all M (d .journal) r new-malformed (access-all M _ _ _ new-terminated new-conflict new-blind) by-room, tt),
       ),
     )
 
-undo-means : (b : List ℕ) (t : List Amount) (bad status out : List ℕ) → All (Means (UndoRefused (inputsOf b t) bad status out)) (undoOrder (inputsOf b t) bad status out (length (copy bad b)))
+undo-means : (d : Inputs) (bad status out : List ℕ) → All (Means (UndoRefused d bad status out)) (undoOrder d bad status out (length (copy bad (d .journal))))
 unfolding undoOrder activeOrder statusOrder knownOrder capacityOrder
-undo-means b t bad status out =
-    let M = Means (UndoRefused (inputsOf b t) bad status out) in
+undo-means d bad status out =
+    let M = Means (UndoRefused d bad status out) in
     all-turns M _ (
-      means-more (λ n p. check-undo) (check-means b t),
+      means-more (λ n p. check-undo) (check-means d),
       (
         all-tried M 11 _ _ _ (λ s l m. by-active (omega arith) (omega arith)),
         (
@@ -157,19 +158,22 @@ unfolding start check chain append countRecords undo result
 only-under =
     record {
       start = λ b n number place e. answer-means (StartRefused b n) _ tt (start-means b n) number place e;
-      check = λ d number place e. answer-means (CheckRefused d) _ _ (check-means (d .journal) (d .table)) number place e;
+      check = λ d number place e. answer-means (CheckRefused d) _ _ (check-means d) number place e;
       chain = λ b s l number place e. answer-means (ChainRefused b s l) _ _ (chain-means b s l) number place e;
-      append = λ d c kind s x a number place e. answer-means (AppendRefused d c (newRecord (d .table) kind s x a)) _ tt (append-means (d .journal) (d .table) c (newRecord (d .table) kind s x a)) number place e;
+      append = λ d c kind s x a number place e. answer-means (AppendRefused d c (newRecord (d .table) kind s x a)) _ tt (append-means d c (newRecord (d .table) kind s x a)) number place e;
       countRecords = λ b number place e. answer-means (Unopened b) _ _ (open-means b) number place e;
-      undo = λ d bad status out number place e. answer-means (UndoRefused d bad status out) _ _ (undo-means (d .journal) (d .table) bad status out) number place e;
+      undo = λ d bad status out number place e. answer-means (UndoRefused d bad status out) _ _ (undo-means d bad status out) number place e;
     }
 
 -- ---- the numbers of the stages
 
-record-numbers : (b : List ℕ) (i : ℕ) → All (NumberIn (4 ∷ 5 ∷ 6 ∷ 7 ∷ 8 ∷ 9 ∷ [])) (recordOrder b i)
+abbrev recordNumbers : List ℕ
+recordNumbers = 4 ∷ 5 ∷ 6 ∷ 7 ∷ 8 ∷ 9 ∷ []
+
+record-numbers : (b : List ℕ) (i : ℕ) → All (NumberIn recordNumbers) (recordOrder b i)
 record-numbers b i = record-all _ b i refl refl (rule-all _ _ _ _ (access-all _ _ _ _ refl refl refl) refl)
 
-records-numbers : (b : List ℕ) → All (NumberIn (4 ∷ 5 ∷ 6 ∷ 7 ∷ 8 ∷ 9 ∷ [])) (recordsOrder b)
+records-numbers : (b : List ℕ) → All (NumberIn recordNumbers) (recordsOrder b)
 unfolding recordsOrder
 records-numbers b = all-each _ (recordOrder b) 1 (count b) (λ i l m. record-numbers b i)
 
@@ -177,28 +181,34 @@ abbrev openLabel : (b : List ℕ) → Label (openOrder b)
 openLabel b = (1 ∷ 2 ∷ [], open-all _ b refl refl refl)
 
 abbrev recordsLabel : (b : List ℕ) → Label (recordsOrder b)
-recordsLabel b = (4 ∷ 5 ∷ 6 ∷ 7 ∷ 8 ∷ 9 ∷ [], records-numbers b)
+recordsLabel b = (recordNumbers, records-numbers b)
 
-abbrev checkLabels : (b : List ℕ) (t : List Amount) → Labels (openOrder b ∷ try 3 0 (wrongTable b t) ∷ recordsOrder b ∷ tryEach 10 (unsettled b t) 0 (items b) ∷ [])
-checkLabels b t = (openLabel b, (tryLabel 3 0 _, (recordsLabel b, (eachLabel 10 _ _ _, tt))))
+abbrev checkLabels : (d : Inputs)
+    → Labels (openOrder (d .journal) ∷ try 3 0 (wrongTable (d .journal) (d .table)) ∷ recordsOrder (d .journal)
+    ∷ tryEach 10 (unsettled (d .journal) (d .table)) 0 (items (d .journal)) ∷ [])
+checkLabels d = (openLabel (d .journal), (tryLabel 3 0 _, (recordsLabel (d .journal), (eachLabel 10 _ _ _, tt))))
 
-check-numbers : (b : List ℕ) (t : List Amount) → All (NumberIn (1 ∷ 2 ∷ 3 ∷ 4 ∷ 5 ∷ 6 ∷ 7 ∷ 8 ∷ 9 ∷ 10 ∷ [])) (checkOrder (inputsOf b t))
+-- what check refuses with: just its numbers
+check-numbers : (d : Inputs) → All (NumberIn checkNumbers) (checkOrder d)
 unfolding checkOrder tableOrder settledOrder
-check-numbers b t = all-labels _ (checkLabels b t)
+check-numbers d = all-labels _ (checkLabels d)
 
-abbrev checkLabel : (b : List ℕ) (t : List Amount) → Label (checkOrder (inputsOf b t))
-checkLabel b t = (1 ∷ 2 ∷ 3 ∷ 4 ∷ 5 ∷ 6 ∷ 7 ∷ 8 ∷ 9 ∷ 10 ∷ [], check-numbers b t)
+abbrev checkLabel : (d : Inputs) → Label (checkOrder d)
+checkLabel d = (checkNumbers, check-numbers d)
 
 abbrev chainLabels : (b : List ℕ) (s : ℕ) (l : List ℕ) (n : ℕ) → Labels (openOrder b ∷ recordsOrder b ∷ try 12 0 (absent b s) ∷ try 14 0 (tooShort l n) ∷ [])
 chainLabels b s l n = (openLabel b, (recordsLabel b, (tryLabel 12 0 _, (tryLabel 14 0 _, tt))))
 
-abbrev undoLabels : (b : List ℕ) (t : List Amount) (bad status out : List ℕ) (n : ℕ)
-    → Labels (checkOrder (inputsOf b t) ∷ tryEach 11 (stillActive b) 1 1024 ∷ try 13 0 (wrongStatus status) ∷ tryEach 12 (λ k. unknown b (getD bad k 0)) 0 (length bad)
-    ∷ try 14 0 (tooShort out n) ∷ [])
-undoLabels b t bad status out n = (checkLabel b t, (eachLabel 11 _ _ _, (tryLabel 13 0 _, (eachLabel 12 _ _ _, (tryLabel 14 0 _, tt)))))
+abbrev undoLabels : (d : Inputs) (bad status out : List ℕ) (n : ℕ)
+    → Labels (checkOrder d ∷ tryEach 11 (stillActive (d .journal)) 1 1024 ∷ try 13 0 (wrongStatus status)
+    ∷ tryEach 12 (λ k. unknown (d .journal) (getD bad k 0)) 0 (length bad) ∷ try 14 0 (tooShort out n) ∷ [])
+undoLabels d bad status out n = (checkLabel d, (eachLabel 11 _ _ _, (tryLabel 13 0 _, (eachLabel 12 _ _ _, (tryLabel 14 0 _, tt)))))
 
 abbrev newLabel : (b : List ℕ) (r : Record) → Label (newOrder b r)
 newLabel b r = (4 ∷ 6 ∷ 7 ∷ 8 ∷ 14 ∷ [], new-all _ b r refl (access-all _ _ _ _ refl refl refl) refl)
+
+abbrev appendLabels : (d : Inputs) (c : RecordCounts) (r : Record) → Labels (checkOrder d ∷ try 15 0 (wrongCounts (d .journal) c) ∷ newOrder (d .journal) r ∷ [])
+appendLabels d c r = (checkLabel d, (tryLabel 15 0 _, (newLabel (d .journal) r, tt)))
 
 -- ---- accepted, or refused by a number from the list
 
@@ -217,24 +227,24 @@ chain-numbers : (b : List ℕ) (s : ℕ) (l : List ℕ) (n : ℕ) → All (Numbe
 unfolding chainOrder presentOrder capacityOrder
 chain-numbers b s l n = all-labels _ (chainLabels b s l n)
 
-append-numbers : (b : List ℕ) (t : List Amount) (c : RecordCounts) (r : Record) → All (NumberIn appendNumbers) (appendOrder (inputsOf b t) c r)
+append-numbers : (d : Inputs) (c : RecordCounts) (r : Record) → All (NumberIn appendNumbers) (appendOrder d c r)
 unfolding appendOrder countsOrder
-append-numbers b t c r = all-labels _ (checkLabel b t, (tryLabel 15 0 _, (newLabel b r, tt)))
+append-numbers d c r = all-labels _ (appendLabels d c r)
 
-undo-numbers : (b : List ℕ) (t : List Amount) (bad status out : List ℕ) (n : ℕ) → All (NumberIn undoNumbers) (undoOrder (inputsOf b t) bad status out n)
+undo-numbers : (d : Inputs) (bad status out : List ℕ) (n : ℕ) → All (NumberIn undoNumbers) (undoOrder d bad status out n)
 unfolding undoOrder activeOrder statusOrder knownOrder capacityOrder
-undo-numbers b t bad status out n = all-labels _ (undoLabels b t bad status out n)
+undo-numbers d bad status out n = all-labels _ (undoLabels d bad status out n)
 
 pub answered-all : Answered
 unfolding start check chain append countRecords undo result
 answered-all =
     record {
       start = λ b n. answers _ _ _ (start-numbers b n);
-      check = λ d. answers _ _ _ (check-numbers (d .journal) (d .table));
+      check = λ d. answers _ _ _ (check-numbers d);
       chain = λ b s l. answers _ _ _ (chain-numbers b s l _);
-      append = λ d c kind s x a. answers _ _ _ (append-numbers (d .journal) (d .table) c (newRecord (d .table) kind s x a));
+      append = λ d c kind s x a. answers _ _ _ (append-numbers d c (newRecord (d .table) kind s x a));
       countRecords = λ b. answers countNumbers _ _ (open-all _ b refl refl refl);
-      undo = λ d bad status out. answers _ _ _ (undo-numbers (d .journal) (d .table) bad status out _);
+      undo = λ d bad status out. answers _ _ _ (undo-numbers d bad status out _);
     }
 
 -- ---- the stage that decides
@@ -246,20 +256,21 @@ Own b t = t .refusal .number ≤ 10 → (t .refusal .number ≤ 9 → t .refusal
 own : (b : List ℕ) (k : ℕ) → k ≤ 9 → k ≤ 10 → (k ≤ 9 → suc (count b) ≤ count b) → ⊥
 own b k l u h = let g = h l in omega arith
 
-module _ (n i : ℕ) (b : List ℕ) (t : List Amount) where
+module _ (n i : ℕ) (d : Inputs) where
   abbrev refusal : Option Refusal
   refusal = some (record { number = n; place = i })
 
   -- what refuses take-back by one of check's numbers is check's
-  undo-check : (bad status out : List ℕ) (m : ℕ) → 1 ≤ n → n ≤ 10 → decide (undoOrder (inputsOf b t) bad status out m) ≡ refusal → decide (checkOrder (inputsOf b t)) ≡ refusal
+  undo-check : (bad status out : List ℕ) (m : ℕ) → 1 ≤ n → n ≤ 10 → decide (undoOrder d bad status out m) ≡ refusal → decide (checkOrder d) ≡ refusal
   unfolding undoOrder activeOrder statusOrder knownOrder capacityOrder
-  undo-check bad status out m l u e = stage-decides 1 10 n i l u _ (undoLabels b t bad status out m) refl e
+  undo-check bad status out m l u e = stage-decides 1 10 n i l u _ (undoLabels d bad status out m) refl e
 
   -- and so for post, but for its own record
-  append-check : (c : RecordCounts) (r : Record) → n ≤ 10 → (n ≤ 9 → i ≤ count b) → decide (appendOrder (inputsOf b t) c r) ≡ refusal → decide (checkOrder (inputsOf b t)) ≡ refusal
+  append-check : (c : RecordCounts) (r : Record) → n ≤ 10 → (n ≤ 9 → i ≤ count (d .journal)) → decide (appendOrder d c r) ≡ refusal → decide (checkOrder d) ≡ refusal
   unfolding appendOrder countsOrder
   append-check c r u within e =
-      says-turn n i _ (checkOrder (inputsOf b t)) _ (λ x. x)
+      let b = d .journal in
+      says-turn n i _ (checkOrder d) _ (λ x. x)
       (elsewhere n i _ (Own b)
       (all-turns (Own b) _ (all-try (Own b) 15 0 _ (λ v h. omega arith), (new-all (Own b) b r (own b 4 (omega arith)) (access-all (Own b) _ _ _ (own b 6 (omega arith)) (own b 7 (omega arith)) (own b 8 (omega arith))) (λ v h. omega arith), tt)))
       (λ x f q. f (rw q u) (rw q within)))
@@ -272,9 +283,9 @@ unfolding recordsOrder
 records-lowest b n i e =
     each-place (recordOrder b) 1 (count b) n i (λ k. record-all _ b k refl refl (rule-all _ _ _ _ (access-all _ _ _ _ refl refl refl) refl)) e
 
-check-lowest : (b : List ℕ) (t : List Amount) (n i : ℕ) → 4 ≤ n → n ≤ 9 → Says n i (Lowest b n i) (checkOrder (inputsOf b t))
+check-lowest : (d : Inputs) (n i : ℕ) → 4 ≤ n → n ≤ 9 → Says n i (Lowest (d .journal) n i) (checkOrder d)
 unfolding checkOrder tableOrder settledOrder
-check-lowest b t n i l u e = records-lowest b n i (stage-decides 4 9 n i l u _ (checkLabels b t) refl e)
+check-lowest d n i l u e = records-lowest (d .journal) n i (stage-decides 4 9 n i l u _ (checkLabels d) refl e)
 
 chain-lowest : (b : List ℕ) (s : ℕ) (l : List ℕ) (m n i : ℕ) → 4 ≤ n → n ≤ 9 → Says n i (Lowest b n i) (chainOrder b s l m)
 unfolding chainOrder presentOrder capacityOrder
@@ -284,111 +295,88 @@ pub lowest-record : LowestRecord
 unfolding check chain append undo result
 lowest-record =
     record {
-      check = λ d n i l u e. check-lowest (d .journal) (d .table) n i l u (refused-only n i _ _ (sym e));
+      check = λ d n i l u e. check-lowest d n i l u (refused-only n i _ _ (sym e));
       chain = λ b s l n i low high e. chain-lowest b s l _ n i low high (refused-only n i _ _ (sym e));
       append = λ d c kind s x a n i low high within e.
-          check-lowest (d .journal) (d .table) n i low high (append-check n i (d .journal) (d .table) c (newRecord (d .table) kind s x a) (omega arith) (λ h. within) (refused-only n i _ _ (sym e)));
+          check-lowest d n i low high (append-check n i d c (newRecord (d .table) kind s x a) (omega arith) (λ h. within) (refused-only n i _ _ (sym e)));
       undo = λ d bad status out n i low high e.
-          check-lowest (d .journal) (d .table) n i low high (undo-check n i (d .journal) (d .table) bad status out _ (omega arith) (omega arith) (refused-only n i _ _ (sym e)));
+          check-lowest d n i low high (undo-check n i d bad status out _ (omega arith) (omega arith) (refused-only n i _ _ (sym e)));
     }
 
 -- ---- the lowest place
 
-item-lowest : (b : List ℕ) (t : List Amount) (x : ℕ) → Says 10 x ((y : ℕ) → y < x → unsettled b t y ≡ false) (checkOrder (inputsOf b t))
+item-lowest : (d : Inputs) (x : ℕ) → Says 10 x ((y : ℕ) → y < x → unsettled (d .journal) (d .table) y ≡ false) (checkOrder d)
 unfolding checkOrder tableOrder settledOrder
-item-lowest b t x e y h =
-    tried-lowest (unsettled b t) 0 (items b) 10 x (stage-decides 10 10 10 x (omega arith) (omega arith) _ (checkLabels b t) refl e) y (omega arith) h
+item-lowest d x e y h =
+    tried-lowest (unsettled (d .journal) (d .table)) 0 (items (d .journal)) 10 x
+    (stage-decides 10 10 10 x (omega arith) (omega arith) _ (checkLabels d) refl e) y (omega arith) h
 
-module _ (b : List ℕ) (t : List Amount) (bad status out : List ℕ) (m : ℕ) where
-  active-lowest : (s : ℕ) → Says 11 s ((v : ℕ) → 1 ≤ v → v < s → stillActive b v ≡ false) (undoOrder (inputsOf b t) bad status out m)
+module _ (d : Inputs) (bad status out : List ℕ) (m : ℕ) where
+  active-lowest : (s : ℕ) → Says 11 s ((v : ℕ) → 1 ≤ v → v < s → stillActive (d .journal) v ≡ false) (undoOrder d bad status out m)
   unfolding undoOrder activeOrder statusOrder knownOrder capacityOrder
-  active-lowest s e = tried-lowest (stillActive b) 1 1024 11 s (stage-decides 11 11 11 s (omega arith) (omega arith) _ (undoLabels b t bad status out m) refl e)
+  active-lowest s e =
+      tried-lowest (stillActive (d .journal)) 1 1024 11 s (stage-decides 11 11 11 s (omega arith) (omega arith) _ (undoLabels d bad status out m) refl e)
 
-  position-lowest : (k : ℕ) → Says 12 k ((i : ℕ) → i < k → unknown b (getD bad i 0) ≡ false) (undoOrder (inputsOf b t) bad status out m)
+  position-lowest : (k : ℕ) → Says 12 k ((i : ℕ) → i < k → unknown (d .journal) (getD bad i 0) ≡ false) (undoOrder d bad status out m)
   unfolding undoOrder activeOrder statusOrder knownOrder capacityOrder
   position-lowest k e i h =
-      tried-lowest (λ k. unknown b (getD bad k 0)) 0 (length bad) 12 k
-      (stage-decides 12 12 12 k (omega arith) (omega arith) _ (undoLabels b t bad status out m) refl e) i (omega arith) h
+      tried-lowest (λ k. unknown (d .journal) (getD bad k 0)) 0 (length bad) 12 k
+      (stage-decides 12 12 12 k (omega arith) (omega arith) _ (undoLabels d bad status out m) refl e) i (omega arith) h
 
 pub lowest-place : LowestPlace
 unfolding check append undo result
 lowest-place =
     record {
-      checkItem = λ d x e. item-lowest (d .journal) (d .table) x (refused-only 10 x _ _ (sym e));
+      checkItem = λ d x e. item-lowest d x (refused-only 10 x _ _ (sym e));
       appendItem = λ d c kind s v a x e.
-          item-lowest (d .journal) (d .table) x (append-check 10 x (d .journal) (d .table) c (newRecord (d .table) kind s v a) (omega arith) (λ h. absurd (omega arith)) (refused-only 10 x _ _ (sym e)));
-      undoItem = λ d bad status out x e. item-lowest (d .journal) (d .table) x (undo-check 10 x (d .journal) (d .table) bad status out _ (omega arith) (omega arith) (refused-only 10 x _ _ (sym e)));
-      transaction = λ d bad status out s e. active-lowest (d .journal) (d .table) bad status out _ s (refused-only 11 s _ _ (sym e));
-      position = λ d bad status out k e. position-lowest (d .journal) (d .table) bad status out _ k (refused-only 12 k _ _ (sym e));
+          item-lowest d x (append-check 10 x d c (newRecord (d .table) kind s v a) (omega arith) (λ h. absurd (omega arith)) (refused-only 10 x _ _ (sym e)));
+      undoItem = λ d bad status out x e. item-lowest d x (undo-check 10 x d bad status out _ (omega arith) (omega arith) (refused-only 10 x _ _ (sym e)));
+      transaction = λ d bad status out s e. active-lowest d bad status out _ s (refused-only 11 s _ _ (sym e));
+      position = λ d bad status out k e. position-lowest d bad status out _ k (refused-only 12 k _ _ (sym e));
     }
+
+-- ---- 13, 14 and 15 by their one stage
+
+undoRefused-13 : (d : Inputs) (bad status out : List ℕ) (place : ℕ) → undo d bad status out .answer ≡ refused 13 place → wrongStatus status ≡ true
+unfolding undo result undoOrder activeOrder statusOrder knownOrder capacityOrder
+undoRefused-13 d bad status out place e =
+    try-holds 13 0 _ (stage-decides 13 13 13 place (omega arith) (omega arith) _ (undoLabels d bad status out _) refl (refused-only 13 place _ _ (sym e)))
+
+pub undoRefused-14 : (d : Inputs) (bad status out : List ℕ) (place : ℕ) → undo d bad status out .answer ≡ refused 14 place
+    → tooShort out (length (copy bad (d .journal))) ≡ true
+unfolding undo result undoOrder activeOrder statusOrder knownOrder capacityOrder
+undoRefused-14 d bad status out place e =
+    try-holds 14 0 _ (stage-decides 14 14 14 place (omega arith) (omega arith) _ (undoLabels d bad status out _) refl (refused-only 14 place _ _ (sym e)))
+
+pub appendRefused-15 : (d : Inputs) (c : RecordCounts) (kind s x : ℕ) (a : Amount) (place : ℕ) → append d c kind s x a .answer ≡ refused 15 place
+    → wrongCounts (d .journal) c ≡ true
+unfolding append appendOrder countsOrder
+appendRefused-15 d c kind s x a place e =
+    try-holds 15 0 _ (stage-decides 15 15 15 place (omega arith) (omega arith) _ (appendLabels d c (newRecord (d .table) kind s x a)) refl (refused-only 15 place _ _ (sym e)))
 
 -- ---- marks and paper that always do
 
--- which refusals have which numbers
-unopened-number : {b : List ℕ} {n p : ℕ} → Unopened b n p → n ≤ 2
-unopened-number (by-short h) = omega arith
-unopened-number (by-truncated h) = omega arith
-unopened-number (by-head h) = omega arith
+-- a refusal by none of check's numbers: check passed before
+passed-before : (d : Inputs) (bad status out : List ℕ) (number place : ℕ) → member number checkNumbers ≡ false → undo d bad status out .answer ≡ refused number place
+    → Clear (checkOrder d)
+unfolding undo result undoOrder
+passed-before d bad status out number place n e =
+    decide-cases (checkOrder d) (λ z. decide-clear _ z)
+    (λ r z.
+    let q : r ≡ record { number = number; place = place } =
+    Option·some-injective r _ (sym (decide-turn-some _ _ z) ∙ refused-only number place _ _ (sym e)) in
+    let (t, h, f, m) = decide-all (NumberIn checkNumbers) (check-numbers d) r z in
+    clash (rw (f, q) at m) n)
 
-unsound-number : {b : List ℕ} {n p : ℕ} → Unsound b n p → n ≤ 9
-unsound-number (by-unopened u) = omega (arith, unopened-number u)
-unsound-number (by-malformed l u h) = omega arith
-unsound-number (by-chain l u h) = omega arith
-unsound-number (by-terminated u h) = omega arith
-unsound-number (by-conflict u h) = omega arith
-unsound-number (by-blind u h) = omega arith
-unsound-number (by-before u h) = omega arith
-
-pub checkRefused-number : {b : List ℕ} {t : List Amount} {n p : ℕ} → CheckRefused (inputsOf b t) n p → n ≤ 10
-checkRefused-number (by-unsound u) = omega (arith, unsound-number u)
-checkRefused-number (by-table h) = omega arith
-checkRefused-number (by-final-state l h) = omega arith
-
-module _ (b : List ℕ) (t : List Amount) (bad status out : List ℕ) where
-  abbrev Low : ℕ → ℕ → Type 0
-  Low n p = (n ≡ 13 → ⊥) × (n ≡ 14 → ⊥)
-
-  check-low : All (Means Low) (checkOrder (inputsOf b t))
-  check-low =
-      means-more (λ n p u. (λ e. omega (arith, e, checkRefused-number u), λ e. omega (arith, e, checkRefused-number u))) (check-means b t)
-
-  out-holds : badHead b ≡ false → 64020 ≤ length out → tooShort out (length (copy bad b)) ≡ true → ⊥
-  unfolding tooShort
-  out-holds h room e = omega (arith, ltb-true (length out) (length (copy bad b)) e, copy-most bad b, head-facts b h .few)
-
-  undo-low : badHead b ≡ false → length status ≡ 1025 → 64020 ≤ length out → All (Means Low) (undoOrder (inputsOf b t) bad status out (length (copy bad b)))
-  unfolding undoOrder activeOrder statusOrder knownOrder capacityOrder wrongStatus
-  undo-low h marks room =
-      let M = Means Low in
-      all-turns M _ (
-        check-low,
-        (
-          all-tried M 11 _ _ _ (λ s l m _. (λ e. omega (arith, e), λ e. omega (arith, e))),
-          (
-            all-try M 13 0 _ (λ e. absurd (clash e (rw marks))),
-            (all-tried M 12 _ _ _ (λ k l m _. (λ e. omega (arith, e), λ e. omega (arith, e))), (all-try M 14 0 _ (λ e. absurd (out-holds h room e)), tt)),
-          ),
-        ),
-      )
-
-  undo-refused : (n : ℕ) (r : Refusal) → decide (checkOrder (inputsOf b t)) ≡ some r → decide (undoOrder (inputsOf b t) bad status out n) ≡ some r
-  unfolding undoOrder
-  undo-refused n r e = decide-turn-some _ _ e
-
--- check refuses, or the head is right
 pub enough : Enough
-unfolding undo result
-enough v bad status out number place marks room e =
-    let b = v .journal in
-    let t = v .table in
-    let o = undoOrder (inputsOf b t) bad status out (length (copy bad b)) in
-    decide-cases (checkOrder (inputsOf b t))
-    (λ d. answer-means (Low b t bad status out) o _ (undo-low b t bad status out (clear-checks b t (decide-clear _ d) .sound .head) marks room) number place e)
-    (λ r d.
-    let e2 : decide (checkOrder (inputsOf b t)) ≡ some (record { number = number; place = place }) =
-    d ∙ sym (undo-refused b t bad status out _ r d) ∙ refused-only number place (decide o) _ (sym e) in
-    let (x, h, q, f) = decide-all (Means (Low b t bad status out)) (check-low b t bad status out) (record { number = number; place = place }) e2 in
-    rw q at (f h))
+unfolding wrongStatus tooShort
+enough d bad status out number place marks room e = (
+  λ q. clash (undoRefused-13 d bad status out place (rw q at e)) (rw marks),
+  λ q.
+      let e14 : undo d bad status out .answer ≡ refused 14 place = rw q at e in
+      let k = clear-checks d (passed-before d bad status out 14 place refl e14) in
+      omega (arith, ltb-true (length out) _ (undoRefused-14 d bad status out place e14), copy-most bad (d .journal), head-facts (d .journal) (k .sound .head) .few),
+)
 
 -- ---- a refused call writes nothing
 

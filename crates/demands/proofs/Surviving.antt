@@ -30,7 +30,7 @@ use Rattle.model.proofs.Renumber.{legal-renumber, noBlind-renumber, current-ren
 use Rattle.model.proofs.Extension.{first-tag}
 use Rattle.model.proofs.Amounts.{same-refl}
 use Rattle.model.proofs.Opening.{legal-passing, passing-legal, standing-legal, left-stands}
-use Rattle.journal.specs.Inputs.{inputsOf}
+use Rattle.journal.specs.Inputs.{Inputs, handedOn}
 use Rattle.journal.specs.Journal.{count, items, txIn, records, whole, amountAt}
 use Rattle.journal.specs.Refusals.{short, truncated, badHead, wrongTable, malformed, unsettled}
 use Rattle.journal.specs.Copy.{linkedTo, unchanged, recordsSurviving, copySurviving}
@@ -50,20 +50,26 @@ body : {r : Record} → Fitting r → Body r
 body f n h = record { kind = f .kind; reserved = f .reserved; transaction = f .transaction; next = h; item = f .item; before = f .before; after = f .after }
 
 -- a set of committed transactions whose records alone are legal from the opening amounts
-pub record Keeps (b : List ℕ) (t : List Amount) (k : ℕ → Bool) : Type 0 where
-  pub commits : (s : ℕ) → k s ≡ true → committed (whole b) s ≡ true
-  pub legal : Legal (openingAt (inputsOf b t)) (only k (whole b))
+pub record Keeps (d : Inputs) (k : ℕ → Bool) : Type 0 where
+  pub commits : (s : ℕ) → k s ≡ true → committed (whole (d .journal)) s ≡ true
+  pub legal : Legal (openingAt d) (only k (whole (d .journal)))
 
-module _ (b : List ℕ) (t : List Amount) (bytes : Bytes b) (ok : Checks (inputsOf b t)) where
+module _ (d : Inputs) (bytes : Bytes (d .journal)) (ok : Checks d) where
+  abbrev b : List ℕ
+  b = d .journal
+
+  abbrev t : List Amount
+  t = d .table
+
   facts : HeadFacts b
   facts = head-facts b (ok .sound .head)
 
   -- the journal is legal from its opening amounts
-  pub legal-day : Legal (openingAt (inputsOf b t)) (whole b)
+  pub legal-day : Legal (openingAt d) (whole b)
   unfolding openingAt
   legal-day = legal-passing (amountAt t) (whole b) (passing-whole b (ok .sound))
 
-  module _ (k : ℕ → Bool) (keeps : Keeps b t k) where
+  module _ (k : ℕ → Bool) (keeps : Keeps d k) where
     -- ---- the copy's records
 
     surviving-ops : opsOf (recordsSurviving unchanged k b) ≡ renumber (only k (whole b))
@@ -131,26 +137,26 @@ module _ (b : List ℕ) (t : List Amount) (bytes : Bytes b) (ok : Checks (inputs
     unfolding copySurviving
     surviving-whole = whole-journalOf (items b) (recordsSurviving unchanged k b) few some-items surviving-fitting ∙ surviving-ops
 
-    surviving-legal : Legal (openingAt (inputsOf b t)) (whole (copySurviving unchanged k b))
-    surviving-legal = rw surviving-whole (legal-renumber (openingAt (inputsOf b t)) (only k (whole b)) (keeps .legal))
+    surviving-legal : Legal (openingAt d) (whole (copySurviving unchanged k b))
+    surviving-legal = rw surviving-whole (legal-renumber (openingAt d) (only k (whole b)) (keeps .legal))
 
     surviving-noBlind : NoBlindWrites (whole (copySurviving unchanged k b))
     surviving-noBlind = rw surviving-whole (noBlind-renumber (only k (whole b)) (noBlind-only k (whole b) (noBlind-whole b (ok .sound))))
 
     -- ---- the table
 
-    pub tableSurviving-length : length (tableSurviving k (inputsOf b t)) ≡ length t
+    pub tableSurviving-length : length (tableSurviving k d) ≡ length t
     unfolding tableSurviving
     tableSurviving-length = length-tabulate _ 0 (length t)
 
     -- item by item it is what the copy leaves of the opening amount
-    pub tableSurviving-amount : (x : ℕ) → x < length t → amountAt (tableSurviving k (inputsOf b t)) x ≡ stand (openingAt (inputsOf b t)) (whole (copySurviving unchanged k b)) x
+    pub tableSurviving-amount : (x : ℕ) → x < length t → amountAt (tableSurviving k d) x ≡ stand (openingAt d) (whole (copySurviving unchanged k b)) x
     unfolding tableSurviving
     tableSurviving-amount x h =
-        getD-tabulate (λ x. replayed k (openingAt (inputsOf b t) x) (whole b) x) 0 (length t) x (pos 0) h
-        ∙ ap (λ y. replayed k (openingAt (inputsOf b t) y) (whole b) y) (omega arith)
-        ∙ left-stands k (openingAt (inputsOf b t)) (whole b) (legal-endsLast (openingAt (inputsOf b t)) (whole b) legal-day) (keeps .commits) x
-        ∙ sym (ap (λ p. stand (openingAt (inputsOf b t)) p x) surviving-whole ∙ current-renumber (openingAt (inputsOf b t) x) (only k (whole b)) x)
+        getD-tabulate (λ x. replayed k (openingAt d x) (whole b) x) 0 (length t) x (pos 0) h
+        ∙ ap (λ y. replayed k (openingAt d y) (whole b) y) (omega arith)
+        ∙ left-stands k (openingAt d) (whole b) (legal-endsLast (openingAt d) (whole b) legal-day) (keeps .commits) x
+        ∙ sym (ap (λ p. stand (openingAt d) p x) surviving-whole ∙ current-renumber (openingAt d x) (only k (whole b)) x)
 
     -- ---- the copy passes
 
@@ -180,38 +186,38 @@ module _ (b : List ℕ) (t : List Amount) (bytes : Bytes b) (ok : Checks (inputs
         (λ i h. rw surviving-items (each-record (λ i r. malformed (items b) r ≡ false) formed i h))
         (λ i h. next-chained (copySurviving unchanged k b) (suc i)
         (rw surviving-whole (each-record (λ i r. r .next .0 ≡ nextIn (renumber (only k (whole b))) i (txIn r)) linked i h)))
-        (passing-legal (openingAt (inputsOf b t)) (whole (copySurviving unchanged k b)) surviving-legal) surviving-noBlind
+        (passing-legal (openingAt d) (whole (copySurviving unchanged k b)) surviving-legal) surviving-noBlind
 
-    settled : (x : ℕ) → x < items (copySurviving unchanged k b) → unsettled (copySurviving unchanged k b) (tableSurviving k (inputsOf b t)) x ≡ false
+    settled : (x : ℕ) → x < items (copySurviving unchanged k b) → unsettled (copySurviving unchanged k b) (tableSurviving k d) x ≡ false
     unfolding unsettled
     settled x h =
         let l : x < length t = omega (arith, surviving-items, table-length b t (ok .table)) in
         byCases (any (writeTo x) (whole (copySurviving unchanged k b)))
-        (λ w. let e : sameAmount (standing (amountAt (tableSurviving k (inputsOf b t)) x) (whole (copySurviving unchanged k b)) x) (amountAt (tableSurviving k (inputsOf b t)) x) ≡ true =
-        ap (λ a. sameAmount a (amountAt (tableSurviving k (inputsOf b t)) x)) (standing-legal (openingAt (inputsOf b t)) _ (whole (copySurviving unchanged k b)) x w ∙ sym (tableSurviving-amount x l))
-        ∙ same-refl (amountAt (tableSurviving k (inputsOf b t)) x) in rw (w, e))
+        (λ w. let e : sameAmount (standing (amountAt (tableSurviving k d) x) (whole (copySurviving unchanged k b)) x) (amountAt (tableSurviving k d) x) ≡ true =
+        ap (λ a. sameAmount a (amountAt (tableSurviving k d) x)) (standing-legal (openingAt d) _ (whole (copySurviving unchanged k b)) x w ∙ sym (tableSurviving-amount x l))
+        ∙ same-refl (amountAt (tableSurviving k d) x) in rw (w, e))
         (λ n. rw n)
 
-    right-table : wrongTable (copySurviving unchanged k b) (tableSurviving k (inputsOf b t)) ≡ false
+    right-table : wrongTable (copySurviving unchanged k b) (tableSurviving k d) ≡ false
     unfolding wrongTable
     right-table =
-        let e : eqb (length (tableSurviving k (inputsOf b t))) (items (copySurviving unchanged k b)) ≡ true = eq-eqb _ _ (tableSurviving-length ∙ table-length b t (ok .table) ∙ sym surviving-items) in
+        let e : eqb (length (tableSurviving k d)) (items (copySurviving unchanged k b)) ≡ true = eq-eqb _ _ (tableSurviving-length ∙ table-length b t (ok .table) ∙ sym surviving-items) in
         rw e
 
     -- check refuses nothing of the copy with its table
-    pub surviving-checks : Checks (inputsOf (copySurviving unchanged k b) (tableSurviving k (inputsOf b t)))
+    pub surviving-checks : Checks (handedOn (copySurviving unchanged k b) (tableSurviving k d) d)
     surviving-checks = record { sound = surviving-sound; table = right-table; settled = settled }
 
     -- the opening amounts are the same
-    pub surviving-opening : (x : ℕ) → x < length t → openingAt (inputsOf (copySurviving unchanged k b) (tableSurviving k (inputsOf b t))) x ≡ openingAt (inputsOf b t) x
+    pub surviving-opening : (x : ℕ) → x < length t → openingAt (handedOn (copySurviving unchanged k b) (tableSurviving k d) d) x ≡ openingAt d x
     unfolding openingAt
     surviving-opening x h =
-        ap (λ v. initial v (whole (copySurviving unchanged k b)) x) (tableSurviving-amount x h) ∙ opening-found (openingAt (inputsOf b t)) x (whole (copySurviving unchanged k b)) surviving-legal
+        ap (λ v. initial v (whole (copySurviving unchanged k b)) x) (tableSurviving-amount x h) ∙ opening-found (openingAt d) x (whole (copySurviving unchanged k b)) surviving-legal
 
-    pub surviving-openingTable : openingTable (inputsOf (copySurviving unchanged k b) (tableSurviving k (inputsOf b t))) ≡ openingTable (inputsOf b t)
+    pub surviving-openingTable : openingTable (handedOn (copySurviving unchanged k b) (tableSurviving k d) d) ≡ openingTable d
     unfolding openingTable
     surviving-openingTable =
-        ap (λ n. tabulate (openingAt (inputsOf (copySurviving unchanged k b) (tableSurviving k (inputsOf b t)))) 0 n) tableSurviving-length
+        ap (λ n. tabulate (openingAt (handedOn (copySurviving unchanged k b) (tableSurviving k d) d)) 0 n) tableSurviving-length
         ∙ tabulate-ext _ _ 0 0 (length t) (λ x h. let e : 0 + x ≡ x = omega arith in rw e (surviving-opening x h))
 
     -- every transaction of the copy has an end there

@@ -11,27 +11,26 @@ use borrow.Author.Tests.{eqb-true, eq-eqb, ltb-true, ltb-false, le-ltb, not-true
 use Rattle.lists.specs.Search.{member}
 use Rattle.lists.specs.Tables.{tabulate}
 use Rattle.lists.proofs.BoolLaws.{byCases, and-left, and-right, and-both, clash}
-use Rattle.lists.proofs.TablesLaws.{length-tabulate, getD-tabulate, number-ext}
-use Rattle.model.specs.History.{Amount, txOf, committed, aborted}
+use Rattle.lists.proofs.TablesLaws.{length-tabulate, getD-tabulate, countIf-ext}
+use Rattle.model.specs.History.{txOf, committed}
 use Rattle.model.specs.Undo.{isSource, readsFrom, reached, undone, surviving, without}
 use Rattle.model.proofs.Ends.{EndsLast}
 use Rattle.model.proofs.ReadsFromLaws.{readsFrom-member}
 use Rattle.model.proofs.Closure.{reached-list, reached-closed, reached-least}
 use Rattle.model.proofs.Removal.{readsFrom-without}
 use Rattle.model.proofs.Strict.{legal-endsLast}
-use Rattle.journal.specs.Inputs.{inputsOf}
+use Rattle.journal.specs.Inputs.{Inputs}
 use Rattle.journal.specs.Journal.{count, whole}
-use Rattle.journal.specs.Refusals.{terminated, tooShort}
+use Rattle.journal.specs.Refusals.{tooShort}
 use Rattle.journal.specs.Orders.{undoOrder}
 use Rattle.journal.specs.Copy.{copy}
 use Rattle.journal.specs.Results.{totals, statusVector}
-use Rattle.journal.specs.Calls.{undo, undoTotals, statusOf, statuses, openingAt, tableLeft}
+use Rattle.journal.specs.Calls.{undo, undoTotals, statusOf, statuses, openingAt}
 use Rattle.journal.proofs.Clear.{Clear}
 use Rattle.journal.proofs.Checked.{Checks}
 use Rattle.demands.specs.Days.{accepts, Day}
 use Rattle.demands.specs.Undoing.{Accepting, Acceptance, AcceptedPasses, AcceptedExactly, CopyFits, NeverShort, copyIn, LeftPasses, statusAt, StatusMeaning, UndoSet, LeastSet, FewestTransactions, Fewest}
-use Rattle.demands.specs.Refusing.{UndoRefused, check-undo, by-active, by-status, by-unknown, by-capacity}
-use Rattle.demands.proofs.Refusing.{only-under, checkRefused-number}
+use Rattle.demands.proofs.Refusing.{undoRefused-14}
 use Rattle.demands.proofs.CopyLaws.{copy-length, copy-most}
 use Rattle.demands.proofs.Left.{legal-day, copy-bytes, copy-checks, copy-openingTable, copy-ended, copy-count}
 use Rattle.demands.proofs.DaysLaws.{pass-checks, checks-pass}
@@ -40,37 +39,25 @@ use Rattle.demands.proofs.Undone.{clear-accepting, clear-passing, accep
 -- ---- 1. acceptance
 
 pub accepted-passes : AcceptedPasses
-accepted-passes v bad status out e = clear-passing (v .journal) (v .table) bad status out (undo-accepts (v .journal) (v .table) bad status out e)
+accepted-passes d bad status out e = clear-passing d bad status out (undo-accepts d bad status out e)
 
 pub accepted-exactly : AcceptedExactly
-accepted-exactly v bad status out =
-    let b = v .journal in
-    let t = v .table in (
-      λ e. let c = undo-accepts b t bad status out e in (clear-passing b t bad status out c, clear-accepting b t bad status out c),
-      λ (p, a). ap accepts (undo-accepted b t bad status out (accepting-clear b t bad status out (pass-checks b t (p .pass)) (p .finished) a)),
-    )
+accepted-exactly d bad status out = (
+  λ e. let c = undo-accepts d bad status out e in (clear-passing d bad status out c, clear-accepting d bad status out c),
+  λ (p, a). ap accepts (undo-accepted d bad status out (accepting-clear d bad status out (pass-checks d (p .pass)) (p .finished) a)),
+)
 
 pub acceptance : Acceptance
-acceptance v bad status out d =
-    (λ e. accepted-exactly v bad status out .0 e .1, λ a. accepted-exactly v bad status out .1 (record { pass = d .pass; finished = d .finished }, a))
+acceptance d bad status out day =
+    (λ e. accepted-exactly d bad status out .0 e .1, λ a. accepted-exactly d bad status out .1 (record { pass = day .pass; finished = day .finished }, a))
 
 pub copy-fits : CopyFits
-copy-fits v bad = copy-most bad (v .journal)
-
--- what refuses take-back by 14
-undoRefused-14 : {b : List ℕ} {t : List Amount} {bad status out : List ℕ} {n p : ℕ} → UndoRefused (inputsOf b t) bad status out n p → n ≡ 14 → tooShort out (length (copy bad b)) ≡ true
-undoRefused-14 (check-undo u) e = absurd (omega (arith, checkRefused-number u))
-undoRefused-14 (by-active l u h) e = absurd (omega arith)
-undoRefused-14 (by-status h) e = absurd (omega arith)
-undoRefused-14 (by-unknown l h) e = absurd (omega arith)
-undoRefused-14 (by-capacity h) e = h
+copy-fits d bad = copy-most bad (d .journal)
 
 pub never-short : NeverShort
 unfolding tooShort
-never-short v bad status out place h e =
-    let b = v .journal in
-    let t = v .table in
-    clash (undoRefused-14 (only-under .undo (inputsOf b t) bad status out 14 place e) refl) (le-ltb (length out) (length (copy bad b)) (omega (arith, copy-fits (inputsOf b t) bad)))
+never-short d bad status out place h e =
+    clash (undoRefused-14 d bad status out place e) (le-ltb (length out) (length (copy bad (d .journal))) (omega (arith, copy-fits d bad)))
 
 -- ---- 2. what is left passes
 
@@ -79,43 +66,45 @@ unfolding undoTotals totals
 bytes-copy bad b = refl
 
 pub left-passes : LeftPasses
-left-passes v bad status out n a =
-    let b = v .journal in
-    let t = v .table in
+left-passes d bad status out n a =
+    let b = d .journal in
     let day = accepted-day a in
-    let k = pass-checks b t (day .pass) in
+    let k = pass-checks d (day .pass) in
     let (c, e) = accepted-clear a in
-    let q : copyIn (undo (inputsOf b t) bad status out) n ≡ copy bad b = rw (← e) (undo-copy b t bad status out c) in
+    let q : copyIn (undo d bad status out) n ≡ copy bad b = rw (← e) (undo-copy d bad status out c) in
     record {
       day =
-          rw (q, undo-table b t bad status out c)
+          rw (q, undo-table d bad status out c)
           (record {
-            bytes = copy-bytes b t (a .bytes) k bad;
-            pass = checks-pass (copy bad b) (tableLeft bad (inputsOf b t)) (copy-checks b t (a .bytes) k bad);
-            finished = copy-ended b t (a .bytes) k bad;
+            bytes = copy-bytes d (a .bytes) k bad;
+            pass = checks-pass _ (copy-checks d (a .bytes) k bad);
+            finished = copy-ended d (a .bytes) k bad;
           });
-      opening = rw (q, undo-table b t bad status out c) (copy-openingTable b t (a .bytes) k bad);
-      size = ap (λ m. m .bytes) (sym e) ∙ bytes-copy bad b ∙ copy-length bad b ∙ ap (λ m. 20 * (m + 1)) (sym (ap count q ∙ copy-count b t (a .bytes) k bad));
-      behind = rw (← e) (undo-behind b t bad status out c);
+      opening = rw (q, undo-table d bad status out c) (copy-openingTable d (a .bytes) k bad);
+      size = ap (λ m. m .bytes) (sym e) ∙ bytes-copy bad b ∙ copy-length bad b ∙ ap (λ m. 20 * (m + 1)) (sym (ap count q ∙ copy-count d (a .bytes) k bad));
+      behind = rw (← e) (undo-behind d bad status out c);
     }
 
 -- ---- 3. the taken-back set
 
-module _ (b : List ℕ) (t : List Amount) (bad status out : List ℕ) (day : Day (inputsOf b t)) (clear : Clear (undoOrder (inputsOf b t) bad status out (length (copy bad b)))) where
-  checks : Checks (inputsOf b t)
-  checks = pass-checks b t (day .pass)
+module _ (d : Inputs) (bad status out : List ℕ) (day : Day d) (clear : Clear (undoOrder d bad status out (length (copy bad (d .journal))))) where
+  abbrev b : List ℕ
+  b = d .journal
+
+  checks : Checks d
+  checks = pass-checks d (day .pass)
 
   ends-last : EndsLast (whole b)
-  ends-last = legal-endsLast (openingAt (inputsOf b t)) (whole b) (legal-day b t (day .bytes) checks)
+  ends-last = legal-endsLast (openingAt d) (whole b) (legal-day d (day .bytes) checks)
 
   accepting : Accepting b bad status out
-  accepting = clear-accepting b t bad status out clear
+  accepting = clear-accepting d bad status out clear
 
   -- the mark of a number, in range or not
-  statusAt-is : (s : ℕ) → statusAt (undo (inputsOf b t) bad status out) s ≡ statusOf (undone isSource bad (whole b)) (surviving isSource bad (whole b)) s
+  statusAt-is : (s : ℕ) → statusAt (undo d bad status out) s ≡ statusOf (undone isSource bad (whole b)) (surviving isSource bad (whole b)) s
   unfolding statuses statusOf statusVector
   statusAt-is s =
-      ap (λ l. getD l s 0) (undo-status b t bad status out clear)
+      ap (λ l. getD l s 0) (undo-status d bad status out clear)
       ∙ byCases (ltb s 1025)
       (λ h. getD-tabulate (statusOf (undone isSource bad (whole b)) (surviving isSource bad (whole b))) 0 1025 s 0 (ltb-true s 1025 h) ∙ ap (statusOf (undone isSource bad (whole b)) (surviving isSource bad (whole b))) (omega arith))
       (λ h. let l : 1025 ≤ s = ltb-false s 1025 h in
@@ -125,7 +114,7 @@ module _ (b : List ℕ) (t : List Amount) (bad status out : List ℕ) (day : Day
       (λ c. rw c))
 
   by-membership : (P : ℕ → Type 0) (s : ℕ) → (committed (whole b) s ≡ true → member s (reached isSource bad (whole b)) ≡ true → P 2) → (committed (whole b) s ≡ true → member s (reached isSource bad (whole b)) ≡ false → P 1)
-      → (committed (whole b) s ≡ false → P 0) → P (statusAt (undo (inputsOf b t) bad status out) s)
+      → (committed (whole b) s ≡ false → P 0) → P (statusAt (undo d bad status out) s)
   unfolding statusOf
   by-membership P s f g h =
       rw (statusAt-is s)
@@ -133,19 +122,19 @@ module _ (b : List ℕ) (t : List Amount) (bad status out : List ℕ) (day : Day
       (λ c. byCases (member s (reached isSource bad (whole b))) (λ m. rw (c, m) (f c m)) (λ m. rw (c, m) (g c m)))
       (λ c. rw c (h c)))
 
-  pub statusAt-undone : (s : ℕ) → eqb (statusAt (undo (inputsOf b t) bad status out) s) 2 ≡ undone isSource bad (whole b) s
+  pub statusAt-undone : (s : ℕ) → eqb (statusAt (undo d bad status out) s) 2 ≡ undone isSource bad (whole b) s
   statusAt-undone s = by-membership (λ m. eqb m 2 ≡ undone isSource bad (whole b) s) s (λ c m. rw (c, m)) (λ c m. rw (c, m)) (λ c. rw c)
 
-  pub statusAt-surviving : (s : ℕ) → eqb (statusAt (undo (inputsOf b t) bad status out) s) 1 ≡ surviving isSource bad (whole b) s
+  pub statusAt-surviving : (s : ℕ) → eqb (statusAt (undo d bad status out) s) 1 ≡ surviving isSource bad (whole b) s
   statusAt-surviving s = by-membership (λ m. eqb m 1 ≡ surviving isSource bad (whole b) s) s (λ c m. rw (c, m)) (λ c m. rw (c, m)) (λ c. rw c)
 
-  reached-two : (s : ℕ) → committed (whole b) s ≡ true → member s (reached isSource bad (whole b)) ≡ true → statusAt (undo (inputsOf b t) bad status out) s ≡ 2
+  reached-two : (s : ℕ) → committed (whole b) s ≡ true → member s (reached isSource bad (whole b)) ≡ true → statusAt (undo d bad status out) s ≡ 2
   reached-two s c m = eqb-true _ 2 (statusAt-undone s ∙ and-both _ _ c m)
 
-  two-undone : (s : ℕ) → statusAt (undo (inputsOf b t) bad status out) s ≡ 2 → undone isSource bad (whole b) s ≡ true
+  two-undone : (s : ℕ) → statusAt (undo d bad status out) s ≡ 2 → undone isSource bad (whole b) s ≡ true
   two-undone s e = sym (statusAt-undone s) ∙ eq-eqb _ 2 e
 
-  meaning : StatusMeaning b bad (undo (inputsOf b t) bad status out) (undoTotals bad b)
+  meaning : StatusMeaning b bad (undo d bad status out) (undoTotals bad b)
   unfolding undoTotals statuses totals statusVector
   meaning =
       record {
@@ -163,13 +152,13 @@ module _ (b : List ℕ) (t : List Amount) (bad status out : List ℕ) (day : Day
           by-membership (λ m. m ≡ 0 → committed (whole b) s ≡ false) s (λ _ _ e. absurd (omega arith)) (λ _ _ e. absurd (omega arith)) (λ n e. n),
           λ n. by-membership (λ m. m ≡ 0) s (λ c _. clash c n) (λ c _. clash c n) (λ _. refl),
         );
-        size = ap length (undo-status b t bad status out clear) ∙ length-tabulate _ 0 1025;
-        undone = number-ext _ _ 1 1 1024 (λ k h. sym (statusAt-undone (1 + k)));
-        surviving = number-ext _ _ 1 1 1024 (λ k h. sym (statusAt-surviving (1 + k)));
+        size = ap length (undo-status d bad status out clear) ∙ length-tabulate _ 0 1025;
+        undone = countIf-ext _ _ 1 1 1024 (λ k h. sym (statusAt-undone (1 + k)));
+        surviving = countIf-ext _ _ 1 1 1024 (λ k h. sym (statusAt-surviving (1 + k)));
         aborted = refl;
       }
 
-  undo-set : UndoSet b bad (undo (inputsOf b t) bad status out) (undoTotals bad b)
+  undo-set : UndoSet b bad (undo d bad status out) (undoTotals bad b)
   undo-set =
       record {
         meaning = meaning;
@@ -178,7 +167,7 @@ module _ (b : List ℕ) (t : List Amount) (bad status out : List ℕ) (day : Day
 
   -- ---- 4. the fewest sales
 
-  fewest-transactions : FewestTransactions b bad (undo (inputsOf b t) bad status out)
+  fewest-transactions : FewestTransactions b bad (undo d bad status out)
   fewest-transactions =
       record {
         removable = record {
@@ -204,13 +193,7 @@ module _ (b : List ℕ) (t : List Amount) (bad status out : List ℕ) (day : Day
       not-reached s c e = byCases (member s (reached isSource bad (whole b))) (λ m. clash (and-both _ _ c m) e) (λ m. m)
 
 pub least-set : LeastSet
-least-set v bad status out n a =
-    let b = v .journal in
-    let t = v .table in
-    let (c, e) = accepted-clear a in rw (← e) (undo-set b t bad status out (accepted-day a) c)
+least-set d bad status out n a = let (c, e) = accepted-clear a in rw (← e) (undo-set d bad status out (accepted-day a) c)
 
 pub fewest : Fewest
-fewest v bad status out n a =
-    let b = v .journal in
-    let t = v .table in
-    let (c, e) = accepted-clear a in fewest-transactions b t bad status out (accepted-day a) c
+fewest d bad status out n a = fewest-transactions d bad status out (accepted-day a) (accepted-clear a .0)

@@ -4,7 +4,7 @@
 use mathlib.Core.Path.{_≡_}
 use mathlib.Core.Bool.{true, cond}
 use mathlib.Core.List.{List, [], _∷_, _++_}
-use Prim.Native.Nat.{ℕ, zero, suc, _+_, _*_, _<_, _≤_}
+use Prim.Native.Nat.{ℕ, zero, suc, _+_, _<_, _≤_}
 use lib.ListN.{length, take}
 use mir.Syntax.{w32}
 use mir.Val.{SFits}
@@ -13,7 +13,7 @@ use Rattle.format.specs.Bytes.{Bytes}
 use Rattle.format.specs.Layout.{recordAt}
 use Rattle.format.specs.Limits.{journalBytes}
 use Rattle.model.specs.History.{Amount, current}
-use Rattle.journal.specs.Inputs.{Inputs, inputsOf, handedOn}
+use Rattle.journal.specs.Inputs.{Inputs, onto, handedOn}
 use Rattle.journal.specs.Journal.{count, items, txIn, whole, amountAt}
 use Rattle.journal.specs.Refusals.{RecordCounts, countsByKind}
 use Rattle.journal.specs.Calls.{UndoTotals, UndoResult, undo, AppendResult, start, append, newRecord, openingTable}
@@ -48,7 +48,8 @@ appendOn d p = append (d .inputs) (d .counts) (p .kind) (p .tx) (p .item) (p .af
 
 -- the state after one post, accepted or refused
 abbrev pub appendStateAfter : AppendState → AppendCall → AppendState
-appendStateAfter d p = record { inputs = handedOn (appendOn d p .journal) (appendOn d p .table) (d .inputs); counts = appendOn d p .counts }
+appendStateAfter d p =
+    record { inputs = handedOn (appendOn d p .journal) (appendOn d p .table) (d .inputs); counts = appendOn d p .counts }
 
 -- the state after a run of posts
 unfoldable pub runAppends : AppendState → List AppendCall → AppendState
@@ -68,10 +69,10 @@ unfoldable pub AllAccepted : AppendState → List AppendCall → Type 0
 AllAccepted d [] = Unit {0}
 AllAccepted d (p ∷ ps) = (accepts (appendOn d p .answer) ≡ true) × AllAccepted (appendStateAfter d p) ps
 
--- a started journal, with a table and no records counted
-abbrev pub startedState : List ℕ → ℕ → List Amount → AppendState
-startedState b m t =
-    record { inputs = inputsOf (start b m .journal) t; counts = record { reads = 0; writes = 0; commits = 0; aborts = 0 } }
+-- the journal started with m items, the rest as lent, and no records counted
+abbrev pub startedState : Inputs → ℕ → AppendState
+startedState d m =
+    record { inputs = onto (start (d .journal) m .journal) d; counts = record { reads = 0; writes = 0; commits = 0; aborts = 0 } }
 
 -- what posting goes on from: a journal of bytes and a table of amounts that pass, and a tally that agrees with the journal
 pub record AppendReady (d : AppendState) : Type 0 where
@@ -103,19 +104,20 @@ AppendedOnto = (d : AppendState) (ps : List AppendCall) → AppendReady d → Al
 -- table.
 abbrev pub AppendedReads : Type 0
 AppendedReads =
-    (b : List ℕ) (m : ℕ) (t : List Amount) (ps : List AppendCall) → Bytes b → accepts (start b m .answer) ≡ true → length t ≡ m
-    → Amounts t → AllGiven ps → Built [] t (startedState b m t) ps (runAppends (startedState b m t) ps)
+    (d : Inputs) (m : ℕ) (ps : List AppendCall) → Bytes (d .journal) → accepts (start (d .journal) m .answer) ≡ true
+    → length (d .table) ≡ m → Amounts (d .table) → AllGiven ps
+    → Built [] (d .table) (startedState d m) ps (runAppends (startedState d m) ps)
 
 -- a buffer c with what an accepted take-back left: the table, and the tally of the copy, which the buffer begins with
-abbrev pub repairedState : UndoResult → UndoTotals → List ℕ → AppendState
-repairedState r n c = record { inputs = inputsOf c (r .table); counts = countsByKind (whole (copyIn r n)) }
+abbrev pub repairedState : Inputs → UndoResult → UndoTotals → List ℕ → AppendState
+repairedState d r n c = record { inputs = handedOn c (r .table) d; counts = countsByKind (whole (copyIn r n)) }
 
 -- Posting goes on from what a take-back left, in any buffer that begins with the copy.
 abbrev pub AppendedAfter : Type 0
 AppendedAfter = (d : Inputs) (bad status out : List ℕ) (n : UndoTotals) → Accepted d bad status out n → Amounts (d .table)
     → (c : List ℕ) → Bytes c → take (n .bytes) c ≡ copyIn (undo d bad status out) n → (ps : List AppendCall) → AllGiven ps
-    → Built (recordsOf (copyIn (undo d bad status out) n)) (openingTable d) (repairedState (undo d bad status out) n c) ps
-    (runAppends (repairedState (undo d bad status out) n c) ps)
+    → Built (recordsOf (copyIn (undo d bad status out) n)) (openingTable d) (repairedState d (undo d bad status out) n c) ps
+    (runAppends (repairedState d (undo d bad status out) n c) ps)
 
 -- the posts of a journal's first n records, in order
 unfoldable pub appendCallsOf : List ℕ → ℕ → List AppendCall
@@ -126,7 +128,7 @@ appendCallsOf b (suc n) =
 
 -- a started journal with room z and the opening table, and the state after posting the journal's records on it
 abbrev pub restartedState : Inputs → List ℕ → AppendState
-restartedState d z = startedState z (items (d .journal)) (openingTable d)
+restartedState d z = startedState (handedOn z (openingTable d) d) (items (d .journal))
 
 abbrev pub rebuilt : Inputs → List ℕ → AppendState
 rebuilt d z = runAppends (restartedState d z) (appendCallsOf (d .journal) (count (d .journal)))

@@ -95,7 +95,7 @@ sumOver f (d ∷ ds) = f (d .counts) + sumOver f ds
 pub record SameAsOne (c : UndoState) (d : AcceptedCall) (r : UndoResult) (n : UndoTotals) : Type 0 where
   pub answer : r .answer ≡ accepted n
   -- sales marked 2 by the accepted calls are those that the one call marks 2, each by just one of them
-  pub statuses : (s : ℕ) → timesUndone s (c .calls) ≡ cond (isUndone r s) 1 0
+  pub undoneOnce : (s : ℕ) → timesUndone s (c .calls) ≡ cond (isUndone r s) 1 0
   pub table : c .inputs .table ≡ r .table
   pub copy : c .inputs .journal ≡ copyIn r n
   pub surviving : d .counts .surviving ≡ n .surviving
@@ -109,7 +109,7 @@ pub record Incremental (d : Inputs) (c : UndoState) : Type 0 where
   pub acceptance : (k : UndoCall) → (accepts (undoOn c k .answer) ≡ true)
       ↔ Accepting (c .inputs .journal) (remaining (c .calls) (k .bad)) (k .status) (k .out)
   -- none accepted: journal and table unchanged
-  pub unchanged : c .calls ≡ [] → c .inputs ≡ d
+  pub noneAccepted : c .calls ≡ [] → c .inputs ≡ d
   -- otherwise it is the one call with the accepted lists joined, marks of 1,025 bytes and paper that holds the copy
   pub one : (k : AcceptedCall) (ks : List AcceptedCall) → c .calls ≡ k ∷ ks → (m status out : List ℕ) → Joins m (c .calls)
       → length status ≡ statusBytes

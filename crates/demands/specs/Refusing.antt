@@ -5,7 +5,7 @@ use mathlib.Core.Bool.{true, false}
 use mathlib.Core.Logic.{_↔_}
 use mathlib.Core.List.{List, [], _∷_, _++_}
 use mathlib.Core.Option.{none, some}
-use Prim.Native.Nat.{ℕ, suc, _+_, _*_, _<_, _≤_}
+use Prim.Native.Nat.{ℕ, suc, _+_, _<_, _≤_}
 use lib.ListN.{length, getD, take, drop}
 use Rattle.lists.specs.Search.{member}
 use Rattle.format.specs.declared.Record.{Record}
@@ -196,8 +196,8 @@ pub record Untouched : Type 0 where
 
 -- two buffers that agree on head and records
 pub record Agree (b c : List ℕ) : Type 0 where
-  pub left : journalBytes (count b) ≤ length b
-  pub right : journalBytes (count b) ≤ length c
+  pub firstLong : journalBytes (count b) ≤ length b
+  pub secondLong : journalBytes (count b) ≤ length c
   pub same : take (journalBytes (count b)) b ≡ take (journalBytes (count b)) c
 
 -- They get the same answers and writes. Only the length counts, and only in post's 14, so post is compared where that gives the

@@ -5,7 +5,7 @@ use mathlib.Core.Path.{_≡_}
 use mathlib.Core.Bool.{Bool, true, false}
 use mathlib.Core.Logic.{_↔_}
 use mathlib.Core.List.{List, [], _∷_}
-use Prim.Native.Nat.{ℕ, suc, _+_, _*_, _<_, _≤_}
+use Prim.Native.Nat.{ℕ, suc, _<_, _≤_}
 use lib.Dec.{eqb}
 use lib.ListN.{length, getD, take, drop}
 use Rattle.lists.specs.Search.{keep, member}
@@ -26,8 +26,8 @@ use Rattle.demands.specs.Days.{accepts, recordsOf, Chained, PassFinished
 -- the list names only committed sales, the marks are 1,025 bytes and the paper holds the copy
 pub record Accepting (b bad status out : List ℕ) : Type 0 where
   pub names : (s : ℕ) → member s bad ≡ true → committed (whole b) s ≡ true
-  pub statuses : length status ≡ statusBytes
-  pub holds : length (copy bad b) ≤ length out
+  pub statusLength : length status ≡ statusBytes
+  pub capacity : length (copy bad b) ≤ length out
 
 -- Take-back accepts a list exactly when it names only committed sales, the marks are 1,025 bytes and the paper holds the copy.
 abbrev pub Acceptance : Type 0

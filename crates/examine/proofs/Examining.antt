@@ -1,6 +1,6 @@
 -- The stages of refusals 1 to 13, one after the other.
 -- Assumes nothing.
-use mathlib.Core.Path.{_≡_, sym, _∙_, ap, refl}
+use mathlib.Core.Path.{_≡_, sym, _∙_, ap}
 use mathlib.Core.Bool.{not}
 use mathlib.Core.List.{List, [], _∷_}
 use mathlib.Core.Option.{none, some, Option·none-ne-some}
@@ -9,13 +9,13 @@ use native.Mathlib.Omega.{arith}
 use lib.ListN.{length, replicate}
 use borrow.Author.Tests.{eq-eqb, ne-eqb}
 use Rattle.lists.specs.Search.{orElse}
-use Rattle.model.specs.History.{History, Amount}
-use Rattle.journal.specs.Inputs.{inputsOf}
+use Rattle.model.specs.History.{History}
+use Rattle.journal.specs.Inputs.{Inputs}
 use Rattle.journal.specs.declared.Reason.{Reason}
 use Rattle.journal.specs.Reasons.{numberOf, placeOf}
 use Rattle.journal.specs.Journal.{count, items, history, whole}
 use Rattle.journal.specs.Refusals.{wrongTable, stillActive, wrongStatus}
-use Rattle.journal.specs.Orders.{Order, openOrder, tableOrder, recordsOrder, activeOrder, knownOrder, statusOrder, checkOrder, decide}
+use Rattle.journal.specs.Orders.{Order, inTurn, openOrder, tableOrder, recordsOrder, activeOrder, knownOrder, statusOrder, checkOrder, decide}
 use Rattle.journal.specs.Calls.{refused, accepted, answered}
 use Rattle.journal.proofs.OrdersLaws.{decide-yes, decide-no, decide-one, decide-turn, decide-turn-none, decide-turn-some, tryEach-ext}
 use Rattle.journal.proofs.Clear.{clear-decide, decide-clear, turns-clear}
@@ -28,7 +28,7 @@ use Rattle.fields.proofs.HeadLaws.{header-parts, header-opened}
 use Rattle.rules.specs.declared.Verdict.{Verdict}
 use Rattle.rules.specs.declared.Verdict.the-variants as verdict
 use Rattle.rules.specs.Answers.{verdictOf, refusalOf}
-use Rattle.rules.specs.Arrays.{State, endsOf, firstsOf}
+use Rattle.rules.specs.Arrays.{State, Ready, endsOf}
 use Rattle.rules.proofs.ArraysLaws.{ends-start, length-ends}
 use Rattle.validate.specs.Answers.{activeIn}
 use Rattle.validate.proofs.Pass.{state-start, ready-at}
@@ -55,61 +55,70 @@ state-zero b ends e =
     let s = state-start b in
     record { ended = e; begun = s .begun; written = s .written; based = s .based; lastRead = s .lastRead; linked = s .linked }
 
+-- ---- the first stage and the last: an order whose first stage is o, and whose last stage has the verdict v
+
+module _ (o : Order) (b : List ℕ) (h : Headed) (q : headerOf h ≡ answered (decide o) (sizeOf b)) where
+  first-refused : (rest : List Order) (why : Reason) → h ≡ headed.Refused why → headerOf h ≡ answered (decide (inTurn (o ∷ rest))) (sizeOf b)
+  first-refused rest why e =
+      let d : decide o ≡ some (refusalOf why) = refused-only (numberOf why) (placeOf why) (decide o) (sizeOf b) (sym (ap headerOf e) ∙ q) in
+      rw (decide-turn-some o rest d, e)
+
+module _ (o : Order) (b : List ℕ) (v : Verdict) (g : decide o ≡ verdictOf v) where
+  last-refused : (why : Reason) → v ≡ verdict.Refused why → refused (numberOf why) (placeOf why) ≡ answered (decide o) (sizeOf b)
+  last-refused why p = rw (g, p)
+
+  module _ (p : v ≡ verdict.Passed) (n m : ℕ) (c : n ≡ count b) (k : m ≡ items b) where
+    last-passed : accepted (record { records = n; items = m }) ≡ answered (decide o) (sizeOf b)
+    last-passed = rw (g, p, c, k)
+
+    last-left : (ends : List ℕ) → Ready b n → ends ≡ endsOf (history b n) → Examined o b n m ends
+    last-left ends r e = record { ready = r; counted = c; keys = k; ended = e; passed = g ∙ ap verdictOf p }
+
 -- ---- 11, from the working arrays
 
-active-same : (b ends firsts : List ℕ) → ends ≡ endsOf (history b (count b)) → firsts ≡ firstsOf (history b (count b))
-    → activeOrder (activeIn ends firsts) ≡ activeOrder (stillActive b)
-unfolding activeOrder stillActive whole
-active-same b ends firsts e f = tryEach-ext 11 _ _ 1 1024 (λ s l u. active-at b (count b) ends firsts e f s (omega arith))
+module _ (b ends firsts writes bases reads links : List ℕ) (s : State b (count b) ends firsts writes bases reads links) where
+  active-same : activeOrder (activeIn ends firsts) ≡ activeOrder (stillActive b)
+  unfolding activeOrder stillActive whole
+  active-same = tryEach-ext 11 _ _ 1 1024 (λ k l u. active-at b (count b) ends firsts (s .ended) (s .begun) k (omega arith))
+
+  active-decides : (v : Verdict) → verdictOf v ≡ decide (activeOrder (activeIn ends firsts)) → verdictOf v ≡ decide (inTurn (activeOrder (stillActive b) ∷ []))
+  active-decides v g = g ∙ ap decide active-same ∙ sym (decide-one (activeOrder (stillActive b)))
 
 -- ---- 1 to 11
 
-module _ (b : List ℕ) (t : List Amount) (h : Headed) (q : headerOf h ≡ answered (decide (checkOrder (inputsOf b t))) (sizeOf b)) where
-  pub examined-head : (why : Reason) → h ≡ headed.Refused why → headerOf h ≡ answered (decide (examinedOrder (inputsOf b t))) (sizeOf b)
+module _ (d : Inputs) (h : Headed) (q : headerOf h ≡ answered (decide (checkOrder d)) (sizeOf (d .journal))) where
+  pub examined-head : (why : Reason) → h ≡ headed.Refused why → headerOf h ≡ answered (decide (examinedOrder d)) (sizeOf (d .journal))
   unfolding examinedOrder
-  examined-head why e =
-      let d : decide (checkOrder (inputsOf b t)) ≡ some (refusalOf why) = refused-only (numberOf why) (placeOf why) (decide (checkOrder (inputsOf b t))) (sizeOf b) (sym (ap headerOf e) ∙ q) in
-      rw (decide-turn-some (checkOrder (inputsOf b t)) (activeOrder (stillActive b) ∷ []) d, e)
+  examined-head = first-refused (checkOrder d) (d .journal) h q (activeOrder (stillActive (d .journal)) ∷ [])
 
-  module _ (n m : ℕ) (e : h ≡ headed.Size n m) (ends firsts writes bases reads links : List ℕ) (k : decide (checkOrder (inputsOf b t)) ≡ none → State b (count b) ends firsts writes bases reads links)
-      (v : Verdict) (g : verdictOf v ≡ decide (activeOrder (activeIn ends firsts))) where
-    clear : decide (checkOrder (inputsOf b t)) ≡ none
-    clear = check-clear b t h q n m e
+  module _ (n m : ℕ) (e : h ≡ headed.Size n m) (ends firsts writes bases reads links : List ℕ) (k : decide (checkOrder d) ≡ none → State (d .journal) (count (d .journal)) ends firsts writes bases reads links) where
+    clear : decide (checkOrder d) ≡ none
+    clear = check-clear (d .journal) (d .table) h q n m e
 
-    size-is : accepted (record { records = n; items = m }) ≡ accepted (sizeOf b)
-    size-is = sym (ap headerOf e) ∙ q ∙ ap (λ d. answered d (sizeOf b)) clear
+    pub examined-long : length ends ≡ 1025
+    examined-long = ends-long _ _ (k clear .ended)
 
-    examined-same : decide (examinedOrder (inputsOf b t)) ≡ verdictOf v
-    unfolding examinedOrder
-    examined-same =
-        decide-turn-none (checkOrder (inputsOf b t)) _ clear ∙ decide-one (activeOrder (stillActive b))
-        ∙ sym (g ∙ ap decide (active-same b ends firsts (k clear .ended) (k clear .begun)))
+    module _ (v : Verdict) (g : verdictOf v ≡ decide (activeOrder (activeIn ends firsts))) where
+      examined-same : decide (examinedOrder d) ≡ verdictOf v
+      unfolding examinedOrder
+      examined-same = decide-turn-none (checkOrder d) _ clear ∙ sym (active-decides (d .journal) ends firsts writes bases reads links (k clear) v g)
 
-    pub examined-refused : (why : Reason) → v ≡ verdict.Refused why → refused (numberOf why) (placeOf why) ≡ answered (decide (examinedOrder (inputsOf b t))) (sizeOf b)
-    examined-refused why p = rw (examined-same, p)
+      pub examined-refused : (why : Reason) → v ≡ verdict.Refused why → refused (numberOf why) (placeOf why) ≡ answered (decide (examinedOrder d)) (sizeOf (d .journal))
+      examined-refused = last-refused (examinedOrder d) (d .journal) v examined-same
 
-    module _ (p : v ≡ verdict.Passed) where
-      pub examined-passed : accepted (record { records = n; items = m }) ≡ answered (decide (examinedOrder (inputsOf b t))) (sizeOf b)
-      examined-passed = rw (examined-same, p) size-is
-
-      pub examined-left : Examined (examinedOrder (inputsOf b t)) b n m ends
-      examined-left =
-          let z : _≡_ {A = Size} (record { records = n; items = m }) (sizeOf b) = accepted-only none _ _ size-is .1 in
-          let c : n ≡ count b = ap (λ s. s .records) z in
-          record {
-            ready = rw c (checked-ready b t clear);
-            counted = c;
-            keys = ap (λ s. s .items) z;
-            ended = rw c (k clear .ended);
-            passed = examined-same ∙ ap verdictOf p;
-          }
+      pub examined-passed : v ≡ verdict.Passed → (accepted (record { records = n; items = m }) ≡ answered (decide (examinedOrder d)) (sizeOf (d .journal))) × Examined (examinedOrder d) (d .journal) n m ends
+      examined-passed p =
+          let z : _≡_ {A = Size} (record { records = n; items = m }) (sizeOf (d .journal)) = accepted-only (decide (checkOrder d)) _ _ (sym (ap headerOf e) ∙ q) .1 in
+          let c : n ≡ count (d .journal) = ap (λ s. s .records) z in
+          let i : m ≡ items (d .journal) = ap (λ s. s .items) z in
+          (last-passed (examinedOrder d) (d .journal) v examined-same p n m c i, last-left (examinedOrder d) (d .journal) v examined-same p n m c i ends (rw c (checked-ready (d .journal) (d .table) clear)) (rw c (k clear .ended)))
 
 -- ---- 1 to 9 and 11
 
 module _ (b : List ℕ) (v : Verdict) (q : verdictOf v ≡ decide (recordsOrder b)) where
-  ended-parts : decide (endedOrder b) ≡ orElse (verdictOf v) (decide (activeOrder (stillActive b)))
+  ended-parts : decide (endedOrder b) ≡ orElse (verdictOf v) (decide (inTurn (activeOrder (stillActive b) ∷ [])))
   unfolding endedOrder
-  ended-parts = decide-turn (recordsOrder b) (activeOrder (stillActive b) ∷ []) ∙ rw (q, decide-one (activeOrder (stillActive b)))
+  ended-parts = decide-turn (recordsOrder b) (activeOrder (stillActive b) ∷ []) ∙ rw q
 
   pub ended-refused : (why : Reason) → v ≡ verdict.Refused why → verdictOf v ≡ decide (endedOrder b)
   ended-refused why e = rw (ended-parts, e)
@@ -117,56 +126,50 @@ module _ (b : List ℕ) (v : Verdict) (q : verdictOf v ≡ decide (recordsOrder 
   pub ended-finished : (n m : ℕ) (ends firsts writes bases reads links : List ℕ) (w : Verdict) → Opened b n m → v ≡ verdict.Passed → (verdictOf v ≡ none → State b n ends firsts writes bases reads links)
       → verdictOf w ≡ decide (activeOrder (activeIn ends firsts)) → verdictOf w ≡ decide (endedOrder b)
   ended-finished n m ends firsts writes bases reads links w o p k g =
-      let s : State b (count b) ends firsts writes bases reads links = rw (← o .counted) (k (ap verdictOf p)) in
-      rw (ended-parts, p) (g ∙ ap decide (active-same b ends firsts (s .ended) (s .begun)))
+      rw (ended-parts, p) (active-decides b ends firsts writes bases reads links (rw (← o .counted) (k (ap verdictOf p))) w g)
 
 pub never-none : {A : Type 0} (v : Verdict) (why : Reason) → v ≡ verdict.Refused why → verdictOf v ≡ none → A
 never-none v why e z = absurd (Option·none-ne-some (refusalOf why) (sym z ∙ ap verdictOf e))
 
-module _ (b : List ℕ) (t : List Amount) (h : Headed) (q : headerOf h ≡ answered (decide (openOrder b)) (sizeOf b)) where
-  unsettled-parts : decide (unsettledOrder (inputsOf b t)) ≡ orElse (decide (openOrder b)) (orElse (decide (tableOrder (inputsOf b t))) (decide (endedOrder b)))
+module _ (d : Inputs) (h : Headed) (q : headerOf h ≡ answered (decide (openOrder (d .journal))) (sizeOf (d .journal))) where
+  unsettled-parts : decide (unsettledOrder d) ≡ orElse (decide (openOrder (d .journal))) (orElse (decide (tableOrder d)) (decide (endedOrder (d .journal))))
   unfolding unsettledOrder
   unsettled-parts =
-      decide-turn (openOrder b) (tableOrder (inputsOf b t) ∷ endedOrder b ∷ [])
-      ∙ ap (orElse (decide (openOrder b))) (decide-turn (tableOrder (inputsOf b t)) (endedOrder b ∷ []) ∙ ap (orElse (decide (tableOrder (inputsOf b t)))) (decide-one (endedOrder b)))
+      decide-turn (openOrder (d .journal)) (tableOrder d ∷ endedOrder (d .journal) ∷ [])
+      ∙ ap (orElse (decide (openOrder (d .journal)))) (decide-turn (tableOrder d) (endedOrder (d .journal) ∷ []) ∙ ap (orElse (decide (tableOrder d))) (decide-one (endedOrder (d .journal))))
 
-  pub unsettled-head : (why : Reason) → h ≡ headed.Refused why → headerOf h ≡ answered (decide (unsettledOrder (inputsOf b t))) (sizeOf b)
-  unsettled-head why e =
-      let d = refused-only (numberOf why) (placeOf why) (decide (openOrder b)) (sizeOf b) (sym (ap headerOf e) ∙ q) in rw (unsettled-parts, d, e)
+  pub unsettled-head : (why : Reason) → h ≡ headed.Refused why → headerOf h ≡ answered (decide (unsettledOrder d)) (sizeOf (d .journal))
+  unfolding unsettledOrder
+  unsettled-head = first-refused (openOrder (d .journal)) (d .journal) h q (tableOrder d ∷ endedOrder (d .journal) ∷ [])
 
   module _ (n m : ℕ) (e : h ≡ headed.Size n m) where
-    pub unsettled-table : (length t ≡ m → ⊥) → refused 3 0 ≡ answered (decide (unsettledOrder (inputsOf b t))) (sizeOf b)
+    pub unsettled-table : (length (d .table) ≡ m → ⊥) → refused 3 0 ≡ answered (decide (unsettledOrder d)) (sizeOf (d .journal))
     unfolding tableOrder wrongTable
     unsettled-table z =
-        let w = ap not (ne-eqb (length t) (items b) (λ y. z (y ∙ sym (header-opened b h q n m e .keys)))) in
-        rw (unsettled-parts, header-parts b h q n m e .0, decide-yes 3 0 w)
+        let w = ap not (ne-eqb (length (d .table)) (items (d .journal)) (λ y. z (y ∙ sym (header-opened (d .journal) h q n m e .keys)))) in
+        rw (unsettled-parts, header-parts (d .journal) h q n m e .0, decide-yes 3 0 w)
 
-    module _ (z : length t ≡ m) (v : Verdict) (g : verdictOf v ≡ decide (endedOrder b)) where
-      unsettled-same : decide (unsettledOrder (inputsOf b t)) ≡ verdictOf v
+    module _ (z : length (d .table) ≡ m) (v : Verdict) (g : verdictOf v ≡ decide (endedOrder (d .journal))) where
+      unsettled-same : decide (unsettledOrder d) ≡ verdictOf v
       unfolding tableOrder wrongTable
       unsettled-same =
-          let w = ap not (eq-eqb (length t) (items b) (z ∙ header-opened b h q n m e .keys)) in
-          rw (unsettled-parts, header-parts b h q n m e .0, decide-no 3 0 w, g)
+          let w = ap not (eq-eqb (length (d .table)) (items (d .journal)) (z ∙ header-opened (d .journal) h q n m e .keys)) in
+          rw (unsettled-parts, header-parts (d .journal) h q n m e .0, decide-no 3 0 w, g)
 
-      pub unsettled-refused : (why : Reason) → v ≡ verdict.Refused why → refused (numberOf why) (placeOf why) ≡ answered (decide (unsettledOrder (inputsOf b t))) (sizeOf b)
-      unsettled-refused why p = rw (unsettled-same, p)
+      pub unsettled-refused : (why : Reason) → v ≡ verdict.Refused why → refused (numberOf why) (placeOf why) ≡ answered (decide (unsettledOrder d)) (sizeOf (d .journal))
+      unsettled-refused = last-refused (unsettledOrder d) (d .journal) v unsettled-same
 
       module _ (p : v ≡ verdict.Passed) where
-        pub unsettled-passed : accepted (record { records = n; items = m }) ≡ answered (decide (unsettledOrder (inputsOf b t))) (sizeOf b)
-        unsettled-passed = rw (unsettled-same, p) (sym (ap headerOf e) ∙ q ∙ rw (header-parts b h q n m e .0))
+        pub unsettled-passed : accepted (record { records = n; items = m }) ≡ answered (decide (unsettledOrder d)) (sizeOf (d .journal))
+        unsettled-passed = let o = header-opened (d .journal) h q n m e in last-passed (unsettledOrder d) (d .journal) v unsettled-same p n m (o .counted) (o .keys)
 
-        pub unsettled-left : (ends : List ℕ) → (verdictOf v ≡ none → ends ≡ endsOf (history b n)) → Examined (unsettledOrder (inputsOf b t)) b n m ends
+        pub unsettled-left : (ends : List ℕ) → (verdictOf v ≡ none → ends ≡ endsOf (history (d .journal) n)) → Examined (unsettledOrder d) (d .journal) n m ends
         unfolding endedOrder recordsOrder
         unsettled-left ends k =
-            let o = header-opened b h q n m e in
-            let (c, rest) = turns-clear _ (decide-clear (endedOrder b) (sym g ∙ ap verdictOf p)) in
-            record {
-              ready = ready-at b n m n o (rw (o .counted) (clear-decide c)) (omega arith);
-              counted = o .counted;
-              keys = o .keys;
-              ended = k (ap verdictOf p);
-              passed = unsettled-same ∙ ap verdictOf p;
-            }
+            let o = header-opened (d .journal) h q n m e in
+            let (c, rest) = turns-clear _ (decide-clear (endedOrder (d .journal)) (sym g ∙ ap verdictOf p)) in
+            last-left (unsettledOrder d) (d .journal) v unsettled-same p n m (o .counted) (o .keys) ends
+            (ready-at (d .journal) n m n o (rw (o .counted) (clear-decide c)) (omega arith)) (k (ap verdictOf p))
 
 -- ---- what is left
 

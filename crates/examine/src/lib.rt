@@ -28,7 +28,7 @@ use validate::records;
 use validate::verify;
 
 // Refusal 11: the lowest transaction that is active.
-pub fn finished(ends: &[u8], firsts: &[u32]) -> Verdict
+fn finished(ends: &[u8], firsts: &[u32]) -> Verdict
     requires { ⌜ (length (now ends) ≡ transactionSlots) × (length (now firsts) ≡ transactionSlots) ⌝ }
     ensures { λ v. ⌜ verdictOf v ≡ decide (activeOrder (activeIn (now (ends .entry)) (now (firsts .entry)))) ⌝ }
 {
@@ -43,7 +43,7 @@ pub fn finished(ends: &[u8], firsts: &[u32]) -> Verdict
 }
 
 // Refusal 12: the lowest position whose number is no committed transaction's.
-pub fn known(ends: &[u8], bad: &[u16]) -> Verdict
+fn known(ends: &[u8], bad: &[u16]) -> Verdict
     ensures { λ v. ⌜ verdictOf v ≡ decide (knownOrder (unknownIn (now (ends .entry))) (now (bad .entry))) ⌝ }
 {
     let mut k = 0;

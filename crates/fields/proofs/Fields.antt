@@ -1,7 +1,7 @@
 -- Amounts compared by their bits, the layout of the head and of a record, test by test.
 -- Assumes nothing.
 use mathlib.Core.Path.{_≡_, refl, sym, _∙_, ap}
-use mathlib.Core.Bool.{Bool, false≢true, true, false, cond, not, _&&_, and-assoc}
+use mathlib.Core.Bool.{Bool, false≢true, true, false, cond, not, _&&_, _||_, and-assoc}
 use mathlib.Core.List.{List}
 use mathlib.Core.Option.{none, some}
 use Prim.Native.Nat.{ℕ, _+_, _*_, _<_, _≤_}
@@ -37,6 +37,22 @@ not-not : (a : Bool) → a ≡ not (not a)
 not-not true = refl
 not-not false = refl
 
+and-cond : (a b : Bool) → a && b ≡ cond a b false
+and-cond true b = refl
+and-cond false b = refl
+
+-- ---- the kind of an end
+
+module _ (k : ℕ) where
+  pub end-commit : k ≡ 3 → true ≡ (eqb k 3 || eqb k 4)
+  end-commit e = rw e
+
+  pub end-abort : k ≡ 4 → true ≡ (eqb k 3 || eqb k 4)
+  end-abort e = rw e
+
+  pub end-other : (k ≡ 3 → ⊥) → (k ≡ 4 → ⊥) → false ≡ (eqb k 3 || eqb k 4)
+  end-other a b = rw (ne-eqb k 3 a, ne-eqb k 4 b)
+
 -- ---- a record
 
 module _ (n : ℕ) (r : Record) where
@@ -63,15 +79,15 @@ module _ (n : ℕ) (r : Record) where
     pub formed-write : r .kind ≡ 2 → ltb (r .item .0) n ≡ not (malformed n r)
     formed-write k = formed-body _ (rw k)
 
-    pub formed-commit : (h a : Bool) → r .kind ≡ 3 → a ≡ sameAmount (r .before) (pos 0) && sameAmount (r .after) (pos 0) → h ≡ eqb (r .item .0) 0 && a → h ≡ not (malformed n r)
-    formed-commit h a k e g = formed-body h (g ∙ rw (k, e) (sym (and-assoc (eqb (r .item .0) 0) _ _)))
-
-    pub formed-abort : (h a : Bool) → r .kind ≡ 4 → a ≡ sameAmount (r .before) (pos 0) && sameAmount (r .after) (pos 0) → h ≡ eqb (r .item .0) 0 && a → h ≡ not (malformed n r)
-    formed-abort h a k e g = formed-body h (g ∙ rw (k, e) (sym (and-assoc (eqb (r .item .0) 0) _ _)))
-
-    pub formed-kind : (r .kind ≡ 1 → ⊥) → (r .kind ≡ 2 → ⊥) → (r .kind ≡ 3 → ⊥) → (r .kind ≡ 4 → ⊥) → false ≡ not (malformed n r)
-    formed-kind a b c d =
-        formed-body false (rw (ne-eqb (r .kind) 1 a, ne-eqb (r .kind) 2 b, ne-eqb (r .kind) 3 c, ne-eqb (r .kind) 4 d))
+    pub formed-end : (h e g a : Bool) → (r .kind ≡ 1 → ⊥) → (r .kind ≡ 2 → ⊥) → e ≡ (eqb (r .kind) 3 || eqb (r .kind) 4)
+        → a ≡ sameAmount (r .before) (pos 0) && sameAmount (r .after) (pos 0) → g ≡ eqb (r .item .0) 0 && a → h ≡ e && g
+        → h ≡ not (malformed n r)
+    formed-end h e g a p q i j k l =
+        formed-body h
+        (l
+        ∙ ap (e &&_) (k ∙ ap (eqb (r .item .0) 0 &&_) j ∙ sym (and-assoc (eqb (r .item .0) 0) _ _))
+        ∙ and-cond e (eqb (r .item .0) 0 && sameAmount (r .before) (pos 0) && sameAmount (r .after) (pos 0))
+        ∙ rw (ne-eqb (r .kind) 1 p, ne-eqb (r .kind) 2 q, i))
 
 -- ---- the fields of a record that is not malformed
 

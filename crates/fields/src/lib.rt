@@ -1,6 +1,7 @@
 // The fields of a journal: its head, by refusals 1 and 2, and those of a record, by rule 4.
 ghost use mathlib.Core.Path.{_≡_};
-ghost use mathlib.Core.Bool.{not, _&&_};
+ghost use mathlib.Core.Bool.{not, _&&_, _||_};
+ghost use lib.Dec.{eqb};
 ghost use lib.IntN.{pos};
 ghost use Rattle.model.specs.History.{sameAmount};
 ghost use Rattle.journal.specs.Refusals.{headRight, malformed};
@@ -93,6 +94,17 @@ pub fn header(journal: &[u8]) -> Headed
     }
 }
 
+// The kind of an end: commit or abort. Where a record is neither read nor write, every other kind is refused by it.
+fn is_end(kind: u8) -> bool
+    ensures { λ h. ⌜ h ≡ eqb kind 3 || eqb kind 4 ⌝ }
+{
+    match kind {
+        3 => true,
+        4 => true,
+        _ => false,
+    }
+}
+
 // Rule 4: the fields of a record but next, by its kind; `items` is the item count.
 pub fn formed(items: u32, r: Record) -> bool
     ensures { λ h. ⌜ h ≡ not (malformed items r) ⌝ }
@@ -107,13 +119,10 @@ pub fn formed(items: u32, r: Record) -> bool
         return false;
     }
     let within = r.item.0 < items;
-    let bare = no_amounts(r);
     let kind = r.kind;
     match kind {
-        1 => both(within, bare),
+        1 => both(within, no_amounts(r)),
         2 => within,
-        3 => both(r.item.0 == 0, bare),
-        4 => both(r.item.0 == 0, bare),
-        _ => false,
+        _ => both(is_end(kind), both(r.item.0 == 0, no_amounts(r))),
     }
 }

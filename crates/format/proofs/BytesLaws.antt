@@ -13,7 +13,7 @@ use mir.Syntax.{w32}
 use mir.Val.{SFits}
 use mir.ValLaws as vals
 use Rattle.lists.specs.Tables.{store}
-use Rattle.lists.proofs.TablesLaws.{tabulate-zero, tabulate-suc, length-tabulate, getD-tabulate, tabulate-ext, sets-store}
+use Rattle.lists.proofs.TablesLaws.{tabulate-zero, tabulate-suc, tabulate-ext, sets-store}
 use Rattle.format.specs.Bytes.{Bytes, none, byte, value, bytes, entry, entries, amount, bits}
 
 -- ---- lists of bytes
@@ -118,14 +118,6 @@ four-stored at x l h =
     rw (add-one at, add-two at, add-three at) (sets-store at (bytes 4 x) l h)
 
 -- ---- entries
-
-pub length-entries : (w : ℕ) (b : List ℕ) → length (entries w b) ≡ length b / w
-unfolding entries
-length-entries w b = length-tabulate (entry w b) 0 (length b / w)
-
-pub entries-at : (w : ℕ) (b : List ℕ) (i : ℕ) → i < length b / w → getD (entries w b) i 0 ≡ entry w b i
-unfolding entries
-entries-at w b i h = getD-tabulate (entry w b) 0 (length b / w) i 0 h ∙ ap (entry w b) (omega arith)
 
 -- less than an entry
 pub entries-short : (w : ℕ) (b : List ℕ) → length b < w → entries w b ≡ []

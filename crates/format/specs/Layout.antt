@@ -1,7 +1,7 @@
 -- The layout of a record: seven fields in 20 bytes. Reading, writing and the round trip follow from the one list of widths.
 -- Document 01, "The journal", the table. Assumes nothing.
 use mathlib.Core.List.{List, [], _∷_, _++_}
-use Prim.Native.Nat.{ℕ, zero, suc, _+_, _*_, _<_}
+use Prim.Native.Nat.{ℕ, _*_, _<_}
 use lib.ListN.{take, drop, getD}
 use mir.Syntax.{w32}
 use mir.Val.{SFits}

@@ -22,7 +22,7 @@ use Rattle.format.proofs.BytesLaws.{Bytes-store, length-bytes, bytes-bytes}
 use Rattle.format.proofs.LayoutLaws.{recordAt-fitting, length-bytesOf, bytesOf-bytes}
 use Rattle.model.specs.History.{Op, History, Amount, Tag, tagOf, beforeOf, afterOf, tagIn, ofTx, applied, nextIn, writeTo, initial}
 use Rattle.model.proofs.Extension.{latest-tag, next-last, next-extended, settled-extended, matched-extended, Befores, applied-all, initial-extended}
-use Rattle.journal.specs.Inputs.{inputsOf}
+use Rattle.journal.specs.Inputs.{Inputs, onto, handedOn}
 use Rattle.journal.specs.Journal.{count, items, txIn, opOf, records, history, whole, amountAt}
 use Rattle.journal.specs.Copy.{headWith, linkedTo}
 use Rattle.journal.specs.Refusals.{RecordCounts, countsByKind, within, short, truncated, badItems, malformed, mismatched, noRoom, wrongCounts}
@@ -85,9 +85,10 @@ module _ (b : List ℕ) (m : ℕ) (c : Clear (startOrder b m)) where
   unfolding whole
   whole-started = ap (history (start b m .journal)) count-started ∙ history-zero (start b m .journal)
 
-  pub checks-started : (t : List Amount) → length t ≡ m → Checks (inputsOf (start b m .journal) t)
+  -- with whatever else is lent, if the table has an amount for each item
+  pub checks-started : (d : Inputs) → length (d .table) ≡ m → Checks (onto (start b m .journal) d)
   unfolding short truncated
-  checks-started t e =
+  checks-started d e =
       let j : List ℕ = start b m .journal in
       record {
         sound =
@@ -97,8 +98,8 @@ module _ (b : List ℕ) (m : ℕ) (c : Clear (startOrder b m)) where
               full = le-ltb (length j) (20 * (count j + 1)) (omega (arith, length-started, started-long, count-started));
               right = λ i h. absurd (omega (arith, count-started));
             };
-        table = length-table j t (e ∙ sym items-started);
-        settled = λ x h. amount-settled j t x (rw whole-started (λ w. clash w refl));
+        table = length-table j (d .table) (e ∙ sym items-started);
+        settled = λ x h. amount-settled j (d .table) x (rw whole-started (λ w. clash w refl));
       }
 
 -- ---- the journal with one record more
@@ -239,15 +240,15 @@ clear-enters b r k =
     let (c4, (access, (c14, end))) = turns-clear _ k in
     record { formed = try-clear 4 _ _ c4; follows = clear-follows _ _ _ access; room = try-clear 14 _ _ c14 }
 
-pub append-clear : (b : List ℕ) (t : List Amount) (c : RecordCounts) (r : Record) → Checks (inputsOf b t) → wrongCounts b c ≡ false → Enters b r → Clear (appendOrder (inputsOf b t) c r)
+pub append-clear : (d : Inputs) (c : RecordCounts) (r : Record) → Checks d → wrongCounts (d .journal) c ≡ false → Enters (d .journal) r → Clear (appendOrder d c r)
 unfolding appendOrder countsOrder
-append-clear b t c r k w e = clear-turns _ (checks-clear b t k, (clear-try 15 _ _ w, (enters-clear b r e, tt)))
+append-clear d c r k w e = clear-turns _ (checks-clear d k, (clear-try 15 _ _ w, (enters-clear (d .journal) r e, tt)))
 
-pub clear-appended : (b : List ℕ) (t : List Amount) (c : RecordCounts) (r : Record) → Clear (appendOrder (inputsOf b t) c r) → Checks (inputsOf b t) × (wrongCounts b c ≡ false) × Enters b r
+pub clear-appended : (d : Inputs) (c : RecordCounts) (r : Record) → Clear (appendOrder d c r) → Checks d × (wrongCounts (d .journal) c ≡ false) × Enters (d .journal) r
 unfolding appendOrder countsOrder
-clear-appended b t c r k =
+clear-appended d c r k =
     let (check, (c15, (new, end))) = turns-clear _ k in
-    (clear-checks b t check, try-clear 15 _ _ c15, clear-enters b r new)
+    (clear-checks d check, try-clear 15 _ _ c15, clear-enters (d .journal) r new)
 
 -- ---- the tally and the tables
 
@@ -272,18 +273,24 @@ unfolding appliedTable
 amount-appliedTable p o t x h =
     getD-tabulate (λ x. applied o p x (amountAt t x)) 0 (length t) x (pos 0) h ∙ ap (λ x. applied o p x (amountAt t x)) (omega arith)
 
-pub length-openingTable : (b : List ℕ) (t : List Amount) → length (openingTable (inputsOf b t)) ≡ length t
+pub length-openingTable : (d : Inputs) → length (openingTable d) ≡ length (d .table)
 unfolding openingTable
-length-openingTable b t = length-tabulate (openingAt (inputsOf b t)) 0 (length t)
+length-openingTable d = length-tabulate (openingAt d) 0 (length (d .table))
 
-pub amount-openingTable : (b : List ℕ) (t : List Amount) (x : ℕ) → x < length t → amountAt (openingTable (inputsOf b t)) x ≡ openingAt (inputsOf b t) x
+pub amount-openingTable : (d : Inputs) (x : ℕ) → x < length (d .table) → amountAt (openingTable d) x ≡ openingAt d x
 unfolding openingTable
-amount-openingTable b t x h = getD-tabulate (openingAt (inputsOf b t)) 0 (length t) x (pos 0) h ∙ ap (openingAt (inputsOf b t)) (omega arith)
+amount-openingTable d x h = getD-tabulate (openingAt d) 0 (length (d .table)) x (pos 0) h ∙ ap (openingAt d) (omega arith)
 
 -- ---- the journal with one record more passes
 
-module _ (b : List ℕ) (t : List Amount) (r : Record) (k : Checks (inputsOf b t)) (e : Enters b r) (fit : Fitting r) (last : r .next .0 ≡ 0)
-    (before : r .kind ≡ 2 → r .before ≡ amountAt t (r .item .0)) where
+module _ (d : Inputs) (r : Record) (k : Checks d) (e : Enters (d .journal) r) (fit : Fitting r) (last : r .next .0 ≡ 0)
+    (before : r .kind ≡ 2 → r .before ≡ amountAt (d .table) (r .item .0)) where
+  abbrev b : List ℕ
+  b = d .journal
+
+  abbrev t : List Amount
+  t = d .table
+
   small : count b < 3200
   small = room b (e .room) .0
 
@@ -369,7 +376,7 @@ module _ (b : List ℕ) (t : List Amount) (r : Record) (k : Checks (inputsOf b t
             (λ q. let d = eqb-false i (count b) q in right-old i (omega arith));
       }
 
-  pub checks-extended : Checks (inputsOf (extended b r) (appliedTable (whole b) (opOf (suc (count b)) r) t))
+  pub checks-extended : Checks (handedOn (extended b r) (appliedTable (whole b) (opOf (suc (count b)) r) t) d)
   checks-extended =
       let p : History = whole b in
       let o : Op = opOf (suc (count b)) r in
@@ -393,7 +400,7 @@ module _ (b : List ℕ) (t : List Amount) (r : Record) (k : Checks (inputsOf b t
       (λ a z. rw (opOf-abort (suc (count b)) r a) (λ h. clash h refl))
 
   -- the opening table stays
-  pub opening-extended : openingTable (inputsOf (extended b r) (appliedTable (whole b) (opOf (suc (count b)) r) t)) ≡ openingTable (inputsOf b t)
+  pub opening-extended : openingTable (handedOn (extended b r) (appliedTable (whole b) (opOf (suc (count b)) r) t) d) ≡ openingTable d
   unfolding openingTable openingAt
   opening-extended =
       let p : History = whole b in

@@ -9,8 +9,8 @@ use Prim.Native.Nat.{ℕ, zero, suc, pred, _+_, _<_, _≤_}
 use native.Mathlib.Omega.{arith}
 use Rattle.format.specs.declared.Record.{Record}
 use Rattle.format.specs.Layout.{recordAt}
-use Rattle.model.specs.History.{Op, History, Amount}
-use Rattle.journal.specs.Inputs.{Inputs, inputsOf}
+use Rattle.model.specs.History.{Op, History}
+use Rattle.journal.specs.Inputs.{Inputs}
 use Rattle.journal.specs.Journal.{count, items, opOf, history, whole}
 use Rattle.journal.specs.Refusals.{short, truncated, badHead, wrongTable, malformed, wrongNext, terminated, conflicting, blind, mismatched, unsettled, noRoom}
 use Rattle.journal.specs.Orders.{Trial, trial, openOrder, tableOrder, accessOrder, ruleOrder, recordOrder, recordsOrder, settledOrder, newOrder, soundOrder, checkOrder, decide}
@@ -122,22 +122,22 @@ pub decide-sound : (b : List ℕ) → decide (soundOrder b) ≡ none → Sound b
 unfolding soundOrder
 decide-sound b e = let (opens, (records, end)) = turns-clear _ (decide-clear _ e) in clear-sound b opens records
 
-pub checks-clear : (b : List ℕ) (t : List Amount) → Checks (inputsOf b t) → Clear (checkOrder (inputsOf b t))
+pub checks-clear : (d : Inputs) → Checks d → Clear (checkOrder d)
 unfolding checkOrder tableOrder settledOrder
-checks-clear b t k =
+checks-clear d k =
     clear-turns _ (
-      open-clear b (k .sound .long) (k .sound .head) (k .sound .full),
+      open-clear (d .journal) (k .sound .long) (k .sound .head) (k .sound .full),
       (
         clear-try 3 _ _ (k .table),
         (
-          records-clear b (k .sound .right),
+          records-clear (d .journal) (k .sound .right),
           (clear-tried 10 _ _ _ (λ x l m. k .settled x (omega arith)), tt),
         ),
       ),
     )
 
-pub clear-checks : (b : List ℕ) (t : List Amount) → Clear (checkOrder (inputsOf b t)) → Checks (inputsOf b t)
+pub clear-checks : (d : Inputs) → Clear (checkOrder d) → Checks d
 unfolding checkOrder tableOrder settledOrder
-clear-checks b t k =
+clear-checks d k =
     let (opens, (c3, (records, (c10, end)))) = turns-clear _ k in
-    record { sound = clear-sound b opens records; table = try-clear 3 _ _ c3; settled = λ x h. tried-clear 10 _ _ _ c10 x (omega arith) (omega arith) }
+    record { sound = clear-sound (d .journal) opens records; table = try-clear 3 _ _ c3; settled = λ x h. tried-clear 10 _ _ _ c10 x (omega arith) (omega arith) }

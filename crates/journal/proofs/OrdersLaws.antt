@@ -28,6 +28,10 @@ pub decide-no : (n p : ℕ) {c : Bool} → c ≡ false → decide (try n p c) �
 unfolding decide try
 decide-no n p e = simp e
 
+-- the one that decides holds
+pub try-holds : (n p : ℕ) (c : Bool) {r : Refusal} → decide (try n p c) ≡ some r → c ≡ true
+try-holds n p c {r} e = byCases c (λ h. h) (λ h. absurd (Option·none-ne-some r (sym (decide-no n p h) ∙ e)))
+
 pub decide-try : (n p : ℕ) (c : Bool) → decide (try n p c) ≡ cond c (some (record { number = n; place = p })) none
 unfolding decide try
 decide-try n p c = refl

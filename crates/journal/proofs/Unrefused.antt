@@ -19,7 +19,7 @@ use Rattle.model.proofs.Amounts.{same-refl, same-eq}
 use Rattle.model.proofs.Opening.{Passing, opening, legal-passing}
 use Rattle.model.proofs.Legal.{Right, Legal, NoBlindWrites}
 use Rattle.model.proofs.Extension.{Numbered, Settled, legal-at}
-use Rattle.journal.specs.Inputs.{inputsOf}
+use Rattle.journal.specs.Inputs.{Inputs}
 use Rattle.journal.specs.Journal.{count, items, txIn, opOf, history, whole, amountAt}
 use Rattle.journal.specs.Copy.{headWith, linkedTo}
 use Rattle.journal.specs.Refusals.{within, truncated, headRight, badHead, wrongTable, bodyRight, malformed, wrongNext, terminated, conflicting, blind, mismatched, unsettled, noRoom}
@@ -210,11 +210,13 @@ sound-noBlind s zero h = tt
 sound-noBlind s (suc n) h = (sound-noBlind s n (omega arith), s .right n h .follows .notBlind)
 
 -- a write's before is the standing amount from the opening table, the item's first write included
-pub before-standing : {b : List ℕ} → Sound b → (t : List Amount) (i : ℕ) → i < count b → recordAt b (suc i) .kind ≡ 2
-    → recordAt b (suc i) .before ≡ current (openingAt (inputsOf b t) (recordAt b (suc i) .item .0)) (history b i) (recordAt b (suc i) .item .0)
+pub before-standing : (d : Inputs) → Sound (d .journal) → (i : ℕ) → i < count (d .journal) → recordAt (d .journal) (suc i) .kind ≡ 2
+    → recordAt (d .journal) (suc i) .before
+    ≡ current (openingAt d (recordAt (d .journal) (suc i) .item .0)) (history (d .journal) i) (recordAt (d .journal) (suc i) .item .0)
 unfolding whole openingAt
-before-standing {b} s t i h e =
-    let o : ℕ → Amount = opening (amountAt t) (history b (count b)) in
-    let l : Legal o (history b (count b)) = legal-passing (amountAt t) (history b (count b)) (sound-passing s (count b) (omega arith)) in
+before-standing d s i h e =
+    let b = d .journal in
+    let o : ℕ → Amount = opening (amountAt (d .table)) (history b (count b)) in
+    let l : Legal o (history b (count b)) = legal-passing (amountAt (d .table)) (history b (count b)) (sound-passing s (count b) (omega arith)) in
     let w : Right o (history b i) (opOf (suc i) (recordAt b (suc i))) = legal-at o l (record-upto b i (count b) h) .right in
     rw (opOf-write (suc i) (recordAt b (suc i)) e) at w

@@ -2,7 +2,7 @@
 -- Document 01, "Reasons for handing it back". Assumes nothing.
 use mathlib.Core.Bool.{Bool, false, cond, not, _&&_, _||_}
 use mathlib.Core.List.{List}
-use Prim.Native.Nat.{ℕ, _+_, _*_}
+use Prim.Native.Nat.{ℕ, _+_}
 use lib.IntN.{pos}
 use lib.Dec.{eqb, ltb, leb}
 use lib.ListN.{length}

@@ -1,4 +1,4 @@
--- Laws of lists made by index, of elements and parts stored anew, and of counts.
+-- Laws of lists made by index, of elements and parts stored anew, of steps by number, and of counts.
 -- Assumes nothing.
 use mathlib.Core.Path.{_≡_, refl, sym, ap, _∙_}
 use mathlib.Core.Bool.{Bool, true, false, cond, _||_}
@@ -6,16 +6,24 @@ use mathlib.Core.List.{List, [], _∷_, _++_, append-assoc, append-nil}
 use Prim.Native.Nat.{ℕ, zero, suc, _+_, _-_, _≤_, _<_}
 use native.Mathlib.Nat.{add-zero, zero-add, suc-add}
 use native.Mathlib.Omega.{arith}
-use lib.ListN.{length, take, drop, getD, set, length-append, length-drop, drop-of-length-le, List·getD-eq-default}
-use lib.Seq.{take-append-add, length-take-le, take-append-le, take-at, drop-at, drop-append-add, getD-take, take-take, take-nil, drop-drop, sets, sets-eq, set-out, ext-getD}
+use native.Mathlib.Numerals.{add-one}
+use lib.Dec.{eqb}
+use lib.ListN.{length, take, drop, getD, set, replicate, length-append, length-drop, length-set, length-replicate, getD-replicate, drop-of-length-le, List·getD-eq-default}
+use lib.Seq.{take-append-add, length-take-le, take-append-le, take-at, drop-at, drop-append-add, getD-take, take-take, take-nil, drop-drop, sets, sets-eq, set-out, getD-set-same, getD-set-other, ext-getD}
+use borrow.Author.Tests.{eqb-true, eqb-false, eq-eqb, ne-eqb}
 use borrow.Rule.Slice.PartMut.{putMid}
-use Rattle.lists.specs.Tables.{tabulate, each, store, countIf}
+use Rattle.lists.specs.Tables.{tabulate, each, store, stepped, countIf}
 use Rattle.lists.proofs.BoolLaws.{byCases}
 
 -- ---- behind the end of a list
 
 pub none-behind : (l : List ℕ) (i : ℕ) → length l ≤ i → 0 ≡ getD l i 0
 none-behind l i h = sym (List·getD-eq-default l 0 {n = i} h)
+
+-- l has f 0, f 1, .. : n elements
+pub record ByIndex {A : Type 0} (f : ℕ → A) (n : ℕ) (l : List A) : Type 0 where
+  pub size : length l ≡ n
+  pub at : (k : ℕ) (d : A) → k < n → getD l k d ≡ f k
 
 module _ {A : Type 0} where
   pub set-behind : (l : List A) (i : ℕ) (v : A) → length l ≤ i → l ≡ set l i v
@@ -63,6 +71,35 @@ module _ {A : Type 0} where
   tabulate-getD l d =
       ext-getD d _ l (length-tabulate _ 0 (length l))
       (λ k h. getD-tabulate (λ k. getD l k d) 0 (length l) k d (rw length-tabulate at h) ∙ ap (λ k. getD l k d) (omega arith))
+
+  -- ---- an array by its index
+
+  pub by-index : (f : ℕ → A) (n : ℕ) → ByIndex f n (tabulate f 0 n)
+  by-index f n = record { size = length-tabulate f 0 n; at = λ k d h. getD-tabulate f 0 n k d h ∙ ap f (omega arith) }
+
+  -- of one value
+  pub by-index-all : (v d : A) {f : ℕ → A} {n : ℕ} {l : List A} → ByIndex f n l → ((j : ℕ) → f j ≡ v) → replicate n v ≡ l
+  by-index-all v d {f} {n} {l} a o =
+      let r : length (replicate n v) ≡ n = length-replicate n v in
+      ext-getD d _ l (r ∙ sym (a .size)) (λ j h. let m : j < n = omega arith in getD-replicate n j v d m ∙ sym (a .at j d m ∙ o j))
+
+  -- nothing stored
+  pub by-index-same : (d : A) {f g : ℕ → A} {n : ℕ} {l m : List A} → ByIndex f n l → ByIndex g n m → ((j : ℕ) → g j ≡ f j) → l ≡ m
+  by-index-same d {f} {g} {n} {l} a b o =
+      ext-getD d l _ (a .size ∙ sym (b .size)) (λ j h. let i : j < n = omega (arith, a .size) in a .at j d i ∙ sym (b .at j d i ∙ o j))
+
+  -- one element stored, within the array or not
+  pub by-index-set : (k : ℕ) (v d : A) {f g : ℕ → A} {n : ℕ} {l m : List A} → ByIndex f n l → ByIndex g n m → g k ≡ v → ((j : ℕ) → eqb j k ≡ false → g j ≡ f j)
+      → set l k v ≡ m
+  by-index-set k v d {f} {g} {n} {l} a b e o =
+      let z : length (set l k v) ≡ n = length-set l k v ∙ a .size in
+      ext-getD d _ _ (z ∙ sym (b .size))
+      (λ j h.
+      let i : j < n = omega arith in
+      byCases (eqb j k)
+      (λ q. let w = eqb-true j k q in
+      rw w (getD-set-same l k v d (omega (arith, a .size, w))) ∙ sym (b .at j d i ∙ ap g w ∙ e))
+      (λ q. getD-set-other l k j v d (eqb-false j k q) ∙ a .at j d i ∙ sym (b .at j d i ∙ o j q)))
 
   -- ---- each
 
@@ -192,26 +229,43 @@ module _ {A : Type 0} where
         (ap (λ r. take at l ++ v ++ w ++ r) (drop-store (at + length v + length w) (omega arith) ∙ ap (λ k. drop k l) e)
         ∙ ap (λ r. r ++ drop (at + length (v ++ w)) l) (append-assoc (take at l) v w))
 
--- ---- number
+  -- ---- stepped: before the first turn of a loop, one turn later, and behind the last
 
-pub number-zero : (f : ℕ → Bool) (i : ℕ) → countIf f i 0 ≡ 0
-unfolding countIf
-number-zero f i = refl
+  module _ (f : ℕ → A → A) where
+    pub stepped-start : (s : A) → s ≡ stepped f 0 s
+    unfolding stepped
+    stepped-start s = refl
 
-number-suc : (f : ℕ → Bool) (i n : ℕ) → countIf f i (suc n) ≡ cond (f i) (suc (countIf f (suc i) n)) (countIf f (suc i) n)
-unfolding countIf
-number-suc f i n = refl
+    pub stepped-suc : (n : ℕ) (s : A) → stepped f (suc n) s ≡ f (suc n) (stepped f n s)
+    unfolding stepped
+    stepped-suc n s = refl
 
-number-no : (f : ℕ → Bool) (i n : ℕ) → f i ≡ false → countIf f i (suc n) ≡ countIf f (suc i) n
+    pub stepped-turn : (i : ℕ) (s t u : A) → t ≡ stepped f i s → u ≡ f (i + 1) t → u ≡ stepped f (i + 1) s
+    stepped-turn i s t u e q = q ∙ rw (e, add-one) (sym (stepped-suc i s))
+
+    pub stepped-done : (n i : ℕ) (s t : A) → i ≤ n → n ≤ i → t ≡ stepped f i s → t ≡ stepped f n s
+    stepped-done n i s t h l e = let z : n ≡ i = omega arith in rw z e
+
+-- ---- countIf
+
+pub countIf-zero : (f : ℕ → Bool) (i : ℕ) → countIf f i 0 ≡ 0
 unfolding countIf
-number-no f i n e = simp e
+countIf-zero f i = refl
+
+countIf-suc : (f : ℕ → Bool) (i n : ℕ) → countIf f i (suc n) ≡ cond (f i) (suc (countIf f (suc i) n)) (countIf f (suc i) n)
+unfolding countIf
+countIf-suc f i n = refl
+
+countIf-no : (f : ℕ → Bool) (i n : ℕ) → f i ≡ false → countIf f i (suc n) ≡ countIf f (suc i) n
+unfolding countIf
+countIf-no f i n e = simp e
 
 -- one index more at the end
-pub number-last : (f : ℕ → Bool) (i n : ℕ) → countIf f i (suc n) ≡ cond (f (i + n)) (suc (countIf f i n)) (countIf f i n)
-number-last f i zero = number-suc f i 0 ∙ simp (number-zero, add-zero)
-number-last f i (suc n) =
+pub countIf-last : (f : ℕ → Bool) (i n : ℕ) → countIf f i (suc n) ≡ cond (f (i + n)) (suc (countIf f i n)) (countIf f i n)
+countIf-last f i zero = countIf-suc f i 0 ∙ simp (countIf-zero, add-zero)
+countIf-last f i (suc n) =
     let e : suc i + n ≡ i + suc n = omega arith in
-    number-suc f i (suc n) ∙ rw (number-last f (suc i) n, e, number-suc f i n) (swap (f i) (f (i + suc n)) (countIf f (suc i) n))
+    countIf-suc f i (suc n) ∙ rw (countIf-last f (suc i) n, e, countIf-suc f i n) (swap (f i) (f (i + suc n)) (countIf f (suc i) n))
   where
     swap : (a b : Bool) (k : ℕ) → cond a (suc (cond b (suc k) k)) (cond b (suc k) k) ≡ cond b (suc (cond a (suc k) k)) (cond a (suc k) k)
     swap true true k = refl
@@ -219,33 +273,40 @@ number-last f i (suc n) =
     swap false true k = refl
     swap false false k = refl
 
-pub number-ext : (f g : ℕ → Bool) (i j n : ℕ) → ((k : ℕ) → k < n → f (i + k) ≡ g (j + k)) → countIf f i n ≡ countIf g j n
-number-ext f g i j zero h = number-zero f i ∙ sym (number-zero g j)
-number-ext f g i j (suc n) h =
+pub countIf-ext : (f g : ℕ → Bool) (i j n : ℕ) → ((k : ℕ) → k < n → f (i + k) ≡ g (j + k)) → countIf f i n ≡ countIf g j n
+countIf-ext f g i j zero h = countIf-zero f i ∙ sym (countIf-zero g j)
+countIf-ext f g i j (suc n) h =
     let here : f i ≡ g j = ap f (omega arith) ∙ h 0 (omega arith) ∙ ap g (omega arith) in
     let rest : countIf f (suc i) n ≡ countIf g (suc j) n =
-    number-ext f g (suc i) (suc j) n (λ k l. ap f (omega arith) ∙ h (suc k) (omega arith) ∙ ap g (omega arith)) in
-    number-suc f i n ∙ rw (here, rest) (sym (number-suc g j n))
+    countIf-ext f g (suc i) (suc j) n (λ k l. ap f (omega arith) ∙ h (suc k) (omega arith) ∙ ap g (omega arith)) in
+    countIf-suc f i n ∙ rw (here, rest) (sym (countIf-suc g j n))
 
 -- no more than are tried
-pub number-bound : (f : ℕ → Bool) (i n : ℕ) → countIf f i n ≤ n
-number-bound f i zero = rw number-zero (omega arith)
-number-bound f i (suc n) = rw number-suc (go (f i) (number-bound f (suc i) n))
+pub countIf-bound : (f : ℕ → Bool) (i n : ℕ) → countIf f i n ≤ n
+countIf-bound f i zero = rw countIf-zero (omega arith)
+countIf-bound f i (suc n) = rw countIf-suc (go (f i) (countIf-bound f (suc i) n))
   where
     go : (a : Bool) {k : ℕ} → k ≤ n → cond a (suc k) k ≤ suc n
     go true h = omega arith
     go false h = omega arith
 
 -- of two tests that never pass together: as many pass one or the other as pass each
-pub number-add : (f g h : ℕ → Bool) (i n : ℕ) → ((k : ℕ) → h k ≡ f k || g k) → ((k : ℕ) → f k ≡ true → g k ≡ false) → countIf f i n + countIf g i n ≡ countIf h i n
-number-add f g h i zero e d = rw (number-zero f i, number-zero g i, number-zero h i)
-number-add f g h i (suc n) e d =
-    let ih = number-add f g h (suc i) n e d in
-    rw (number-suc f i n, number-suc g i n, number-suc h i n, e i)
+pub countIf-add : (f g h : ℕ → Bool) (i n : ℕ) → ((k : ℕ) → h k ≡ f k || g k) → ((k : ℕ) → f k ≡ true → g k ≡ false) → countIf f i n + countIf g i n ≡ countIf h i n
+countIf-add f g h i zero e d = rw (countIf-zero f i, countIf-zero g i, countIf-zero h i)
+countIf-add f g h i (suc n) e d =
+    let ih = countIf-add f g h (suc i) n e d in
+    rw (countIf-suc f i n, countIf-suc g i n, countIf-suc h i n, e i)
     (byCases (f i)
     (λ p. rw (p, d i p) (omega arith))
     (λ p. rw p (byCases (g i) (λ q. rw q (omega arith)) (λ q. rw q ih))))
 
-pub number-none : (f : ℕ → Bool) (i n : ℕ) → ((k : ℕ) → f k ≡ false) → countIf f i n ≡ 0
-number-none f i zero e = number-zero f i
-number-none f i (suc n) e = number-no f i n (e i) ∙ number-none f (suc i) n e
+pub countIf-none : (f : ℕ → Bool) (i n : ℕ) → ((k : ℕ) → f k ≡ false) → countIf f i n ≡ 0
+countIf-none f i zero e = countIf-zero f i
+countIf-none f i (suc n) e = countIf-no f i n (e i) ∙ countIf-none f (suc i) n e
+
+-- one more, if the code is v
+pub raised-yes : (c e v : ℕ) → e ≡ v → c + 1 ≡ cond (eqb e v) (c + 1) c
+raised-yes c e v h = rw (eq-eqb e v h)
+
+pub raised-no : (c e v : ℕ) → (e ≡ v → ⊥) → c ≡ cond (eqb e v) (c + 1) c
+raised-no c e v h = rw (ne-eqb e v h)

@@ -1,4 +1,4 @@
--- Lists made by index, parts of a list stored anew, arrays of codes, and how many indices pass a test.
+-- Lists made by index, parts of a list stored anew, steps by number, arrays of codes, and how many indices pass a test.
 -- Assumes nothing.
 use mathlib.Core.Bool.{Bool, cond}
 use mathlib.Core.List.{List, [], _∷_, _++_}
@@ -20,6 +20,11 @@ module _ {A : Type 0} where
   -- l with v in place of what stands from `at` on
   unfoldable pub store : ℕ → List A → List A → List A
   store at v l = take at l ++ v ++ drop (at + length v) l
+
+  -- what the steps 1, 2, .., n make of s
+  unfoldable pub stepped : (ℕ → A → A) → ℕ → A → A
+  stepped f zero s = s
+  stepped f (suc n) s = f (suc n) (stepped f n s)
 
 -- element i of an array of codes is v
 unfoldable pub coded : ℕ → List ℕ → ℕ → Bool

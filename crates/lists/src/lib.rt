@@ -1,7 +1,9 @@
 // Tests over a list, lists made by index, a part of a list stored anew, counting. The code here reads and stores one element of an
-// array.
+// array, and raises a count.
 ghost use mathlib.Core.Path.{_≡_};
-ghost use Prim.Native.Nat.{_<_};
+ghost use mathlib.Core.Bool.{cond};
+ghost use Prim.Native.Nat.{_+_, _<_};
+ghost use lib.Dec.{eqb};
 ghost use lib.ListN.{length, getD, set};
 
 // A number of an array that has it.
@@ -33,4 +35,12 @@ pub fn set_code(codes: &mut [u8], i: usize, v: u8)
     if i < codes.len() {
         codes[i] = v;
     }
+}
+
+// One more, if the code is v.
+pub fn raised(count: u32, code: u8, v: u8) -> u32
+    requires { ⌜ count < 4294967295 ⌝ }
+    ensures { λ r. ⌜ r ≡ cond (eqb code v) (count + 1) count ⌝ }
+{
+    if code == v { count + 1 } else { count }
 }

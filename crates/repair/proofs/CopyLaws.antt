@@ -12,16 +12,16 @@ use mir.Val.{toZ, ofZ, SFits}
 use mir.ValLaws.{toZ-ofZ}
 use borrow.Author.Tests.{ne-eqb}
 use borrow.Rule.Slice.PartMut.{putMid}
-use Rattle.lists.specs.Tables.{store, coded}
+use Rattle.lists.specs.Tables.{store, stepped, coded}
 use Rattle.lists.proofs.BoolLaws.{byCases}
-use Rattle.lists.proofs.TablesLaws.{part-stored, store-store, length-store}
+use Rattle.lists.proofs.TablesLaws.{part-stored, store-store, length-store, stepped-start, stepped-suc}
 use Rattle.format.specs.declared.Record.{Record}
 use Rattle.format.specs.Layout.{recordAt, bytesOf}
 use Rattle.format.proofs.LayoutLaws.{length-bytesOf}
 use Rattle.journal.specs.Journal.{txIn, records}
 use Rattle.journal.specs.Copy.{headWith, linkedTo, encoded}
 use Rattle.journal.proofs.Encoded.{length-encoded}
-use Rattle.repair.specs.Copying.{rank, Ranked, moved, movedAll, copyBytes, copyWith, copyStep, copyFrom}
+use Rattle.repair.specs.Copying.{rank, Ranked, moved, movedAll, copyBytes, copyWith, copyStep}
 use Rattle.repair.proofs.RankLaws.{rank-surviving, rank-le}
 
 -- ---- one record
@@ -53,7 +53,7 @@ module _ (b fates ranks : List ℕ) where
   length-moved zero = refl
   length-moved (suc i) = byCases (coded 1 fates (txIn (recordAt b (suc i)))) (λ e. rw e (ap suc (length-moved i))) (λ e. rw e (length-moved i))
 
-  pub length-copyBytes : (i : ℕ) → length (copyBytes b fates ranks i) ≡ 20 * rank (coded 1 fates) b i
+  length-copyBytes : (i : ℕ) → length (copyBytes b fates ranks i) ≡ 20 * rank (coded 1 fates) b i
   unfolding copyBytes
   length-copyBytes i = length-encoded (movedAll (coded 1 fates) ranks (records b i)) ∙ ap (λ k. 20 * k) (length-moved i)
 
@@ -100,28 +100,14 @@ module _ (b fates ranks : List ℕ) where
       let z : getD ranks (i + 1) 0 ≡ rank (coded 1 fates) b (suc i) = ap (λ k. getD ranks k 0) (add-one i) ∙ r .at (suc i) h in
       omega (arith, r .at n (omega arith), rank-le (coded 1 fates) b (suc i) n h)
 
-  -- ---- the pass
-
-  pub pass-start : (out : List ℕ) → out ≡ copyFrom b fates ranks 0 out
-  unfolding copyFrom
-  pass-start out = refl
-
-  pub pass-step : (i : ℕ) (old out new : List ℕ) → out ≡ copyFrom b fates ranks i old → new ≡ copyStep b fates ranks (i + 1) out → new ≡ copyFrom b fates ranks (i + 1) old
-  unfolding copyFrom
-  pass-step i old out new e q = q ∙ rw (add-one, e)
-
-  pub pass-done : (n i : ℕ) (old out : List ℕ) → i ≤ n → n ≤ i → out ≡ copyFrom b fates ranks i old → out ≡ copyFrom b fates ranks n old
-  pass-done n i old out h l e = let z : n ≡ i = omega arith in rw z e
-
   -- the records that it writes stand behind the head
-  passed : (n : ℕ) → Ranked b fates n ranks → (old : List ℕ) → 20 * (getD ranks n 0 + 1) ≤ length old → (i : ℕ) → i ≤ n → copyFrom b fates ranks i old ≡ store 20 (copyBytes b fates ranks i) old
-  unfolding copyFrom
-  passed n r old f zero h = copy-start old
-  passed n r old f (suc i) h = copy-more n r i (omega arith) old f (copyFrom b fates ranks i old) (passed n r old f i (omega arith))
+  passed : (n : ℕ) → Ranked b fates n ranks → (old : List ℕ) → 20 * (getD ranks n 0 + 1) ≤ length old → (i : ℕ) → i ≤ n → stepped (copyStep b fates ranks) i old ≡ store 20 (copyBytes b fates ranks i) old
+  passed n r old f zero h = sym (stepped-start (copyStep b fates ranks) old) ∙ copy-start old
+  passed n r old f (suc i) h = stepped-suc (copyStep b fates ranks) i old ∙ copy-more n r i (omega arith) old f _ (passed n r old f i (omega arith))
 
 -- ---- the head, and the records behind it
 
-pub copied-all : (b fates ranks out part new : List ℕ) (n m k : ℕ) → Ranked b fates n ranks → 20 * (getD ranks n 0 + 1) ≤ length out → k ≡ getD ranks n 0 → part ≡ bytesOf (headWith k m) → new ≡ copyFrom b fates ranks n (putMid 0 20 out part)
+pub copied-all : (b fates ranks out part new : List ℕ) (n m k : ℕ) → Ranked b fates n ranks → 20 * (getD ranks n 0 + 1) ≤ length out → k ≡ getD ranks n 0 → part ≡ bytesOf (headWith k m) → new ≡ stepped (copyStep b fates ranks) n (putMid 0 20 out part)
     → new ≡ store 0 (copyWith b fates ranks n m) out
 unfolding copyWith
 copied-all b fates ranks out part new n m k r h c p q =

@@ -3,7 +3,7 @@
 use mathlib.Core.Path.{_≡_, refl, sym, _∙_, ap}
 use mathlib.Core.Bool.{Bool, true, false, cond, _||_}
 use mathlib.Core.List.{List, _∷_}
-use Prim.Native.Nat.{ℕ, zero, suc, _+_, _≤_, _<_}
+use Prim.Native.Nat.{ℕ, zero, suc, _+_, _≤_}
 use native.Mathlib.Omega.{arith}
 use native.Mathlib.Numerals.{add-one}
 use lib.Dec.{eqb, ltb}
@@ -30,18 +30,18 @@ first-skip : (f : Op → Bool) (r : Op) (p : History) → f r ≡ false → firs
 first-skip f r p e = rw e
 
 module _ (k : ℕ → Bool) (b : List ℕ) where
-  pub rank-zero : rank k b 0 ≡ 0
+  rank-zero : rank k b 0 ≡ 0
   unfolding rank
   rank-zero = refl
 
-  pub rank-suc : (n : ℕ) → rank k b (suc n) ≡ cond (k (txIn (recordAt b (suc n)))) (suc (rank k b n)) (rank k b n)
+  rank-suc : (n : ℕ) → rank k b (suc n) ≡ cond (k (txIn (recordAt b (suc n)))) (suc (rank k b n)) (rank k b n)
   unfolding rank
   rank-suc n = refl
 
   pub rank-surviving : (n : ℕ) → k (txIn (recordAt b (suc n))) ≡ true → rank k b (suc n) ≡ suc (rank k b n)
   rank-surviving n e = rank-suc n ∙ rw e
 
-  pub rank-other : (n : ℕ) → k (txIn (recordAt b (suc n))) ≡ false → rank k b (suc n) ≡ rank k b n
+  rank-other : (n : ℕ) → k (txIn (recordAt b (suc n))) ≡ false → rank k b (suc n) ≡ rank k b n
   rank-other n e = rank-suc n ∙ rw e
 
   rank-step : (n : ℕ) → (rank k b n ≤ rank k b (suc n)) × (rank k b (suc n) ≤ suc (rank k b n))
@@ -57,12 +57,12 @@ module _ (k : ℕ → Bool) (b : List ℕ) where
       (λ e. rw (eqb-true i (suc n) e) (omega arith))
       (λ e. let d = eqb-false i (suc n) e in let q = rank-le i n (omega arith) in let s = rank-step n in omega arith)
 
-  pub rank-few : (n : ℕ) → rank k b n ≤ n
+  rank-few : (n : ℕ) → rank k b n ≤ n
   rank-few zero = rw rank-zero (omega arith)
   rank-few (suc n) = let q = rank-few n in let s = rank-step n in omega arith
 
   -- the rank of the last is how many are kept
-  pub length-only : (n : ℕ) → length (only k (history b n)) ≡ rank k b n
+  length-only : (n : ℕ) → length (only k (history b n)) ≡ rank k b n
   unfolding history rank
   length-only zero = refl
   length-only (suc n) =
@@ -145,8 +145,7 @@ module _ (b fates : List ℕ) where
   pub ranks-start : replicate 3201 0 ≡ partly (rank (coded 1 fates) b) (0 + 1) (replicate 3201 0)
   ranks-start =
       let f = rank (coded 1 fates) b in
-      let l : length {A = ℕ} (replicate 3201 0) ≡ 3201 = length-replicate {A = ℕ} 3201 0 in
-      zeros-front 3200 (f 0) (rank-zero (coded 1 fates) b) ∙ ap (λ z. set z 0 (f 0)) (partly-start f (replicate 3201 0)) ∙ partly-step f (replicate 3201 0) 0 (omega arith)
+      zeros-front 3200 (f 0) (rank-zero (coded 1 fates) b) ∙ ap (λ z. set z 0 (f 0)) (partly-start f (replicate 3201 0)) ∙ partly-step f (replicate 3201 0) 0
 
   pub rank-start : 0 ≡ rank (coded 1 fates) b 0
   rank-start = sym (rank-zero (coded 1 fates) b)
@@ -160,10 +159,8 @@ module _ (b fates : List ℕ) where
     pub surviving-step : m ≡ rank (coded 1 fates) b (i + 1)
     surviving-step = e ∙ rw (q, add-one, add-one) (sym (rank-suc (coded 1 fates) b i))
 
-    pub ranks-step : (n : ℕ) (all : List ℕ) → i < n → n ≤ 3200 → all ≡ partly (rank (coded 1 fates) b) (i + 1) (replicate 3201 0) → set all (i + 1) m ≡ partly (rank (coded 1 fates) b) (i + 1 + 1) (replicate 3201 0)
-    ranks-step n all h u a =
-        let l : length {A = ℕ} (replicate 3201 0) ≡ 3201 = length-replicate {A = ℕ} 3201 0 in
-        rw (a, surviving-step) (partly-step (rank (coded 1 fates) b) (replicate 3201 0) (i + 1) (omega arith))
+    pub ranks-step : (all : List ℕ) → all ≡ partly (rank (coded 1 fates) b) (i + 1) (replicate 3201 0) → set all (i + 1) m ≡ partly (rank (coded 1 fates) b) (i + 1 + 1) (replicate 3201 0)
+    ranks-step all a = rw (a, surviving-step) (partly-step (rank (coded 1 fates) b) (replicate 3201 0) (i + 1))
 
   pub rank-at-most : (i surviving : ℕ) → surviving ≡ rank (coded 1 fates) b i → surviving ≤ i
   rank-at-most i surviving q = rw q (rank-few (coded 1 fates) b i)
@@ -175,6 +172,3 @@ module _ (b fates : List ℕ) where
         size = rw a (length-partly (rank (coded 1 fates) b) (replicate 3201 0) (i + 1) ∙ s);
         at = λ k m. rw a (partly-at (rank (coded 1 fates) b) (replicate 3201 0) (i + 1) k (omega arith) (omega arith));
       }
-
-pub ranks-count : (f : ℕ → ℕ) (i : ℕ) (l : List ℕ) → l ≡ partly f i (replicate 3201 0) → 3201 ≡ length l
-ranks-count f i l e = rw (e, length-partly f (replicate 3201 0) i) (sym (length-replicate {A = ℕ} 3201 0))

@@ -5,7 +5,6 @@ use mathlib.Core.Bool.{Bool, true, false, cond, not}
 use mathlib.Core.List.{List, [], _∷_}
 use Prim.Native.Nat.{ℕ, zero, suc, _+_, _≤_, _<_}
 use native.Mathlib.Omega.{arith}
-use native.Mathlib.Numerals.{add-one}
 use lib.Dec.{eqb}
 use lib.IntN.{pos}
 use lib.ListN.{length, getD, set, replicate}
@@ -15,22 +14,22 @@ use mir.Val.{toZ, ofZ, SFits}
 use mir.ValLaws.{toZ-ofZ}
 use borrow.Author.Tests.{eqb-true, eq-eqb, ne-eqb}
 use Rattle.lists.specs.Search.{any}
-use Rattle.lists.specs.Tables.{coded}
+use Rattle.lists.specs.Tables.{stepped, coded}
 use Rattle.lists.proofs.BoolLaws.{byCases, or-false-left, or-false-right}
 use Rattle.lists.proofs.SearchLaws.{first-none, first-old}
-use Rattle.lists.proofs.TablesLaws.{tabulate-ext, tabulate-getD}
+use Rattle.lists.proofs.TablesLaws.{tabulate-ext, tabulate-getD, ByIndex, by-index, by-index-all, by-index-set, stepped-start, stepped-suc, stepped-turn}
 use Rattle.format.specs.declared.Record.{Record}
 use Rattle.format.specs.Layout.{recordAt}
 use Rattle.model.specs.History.{Op, History, Amount, read, write, commit, abort, other, writeTo, initial}
 use Rattle.model.specs.Undo.{replayed}
 use Rattle.journal.specs.Journal.{txIn, opOf, history, amountAt}
 use Rattle.journal.proofs.Records.{history-zero, history-suc}
+use Rattle.journal.proofs.Unrefused.{opOf-write}
 use Rattle.rules.specs.Arrays.{Ready}
-use Rattle.rules.proofs.ArraysLaws.{getD-of, tabulate-zeros, tabulate-same, op-write}
+use Rattle.rules.proofs.ArraysLaws.{by-access}
 use Rattle.rules.proofs.Found.{passed-right}
 use Rattle.rules.proofs.RuleLaws.{item-write}
-use Rattle.repair.specs.Replaying.{seenOf, leftAfter, openedAt, tableWrite, tableAfter, seenAfter, seenFrom, tableFrom}
-use Rattle.trace.proofs.CodesLaws.{tabulate-put}
+use Rattle.repair.specs.Replaying.{seenOf, leftAfter, openedAt, tableWrite, tableAfter, seenAfter, replayStep}
 
 -- ---- one write
 
@@ -60,50 +59,37 @@ module _ (i : ℕ) (r q : Record) (h : r ≡ q) (fates seen : List ℕ) (t : Lis
   pub table-write : (l : List Amount) → r .kind ≡ 2 → SFits w32 (r .before) → SFits w32 (r .after)
       → l ≡ tableWrite fates seen (txIn r) (r .item .0) (toZ w32 (ofZ w32 (r .before))) (toZ w32 (ofZ w32 (r .after))) t → l ≡ tableAfter fates (opOf i q) seen t
   unfolding tableAfter
-  table-write l k f g e = e ∙ rw (toZ-ofZ w32 (r .before) f, toZ-ofZ w32 (r .after) g, ← h, op-write i r k)
+  table-write l k f g e = e ∙ rw (toZ-ofZ w32 (r .before) f, toZ-ofZ w32 (r .after) g, ← h, opOf-write i r k)
 
   pub seen-write : (l : List ℕ) → r .kind ≡ 2 → l ≡ set seen (r .item .0) 1 → l ≡ seenAfter (opOf i q) seen
   unfolding seenAfter
-  seen-write l k e = e ∙ rw (← h, op-write i r k)
+  seen-write l k e = e ∙ rw (← h, opOf-write i r k)
 
   pub table-other : (r .kind ≡ 2 → ⊥) → t ≡ tableAfter fates (opOf i q) seen t
-  unfolding tableAfter opOf
-  table-other k = rw (← h, ne-eqb (r .kind) 2 k) (three (eqb (r .kind) 1) (eqb (r .kind) 3) (eqb (r .kind) 4))
-    where
-      three : (c d e : Bool) → t ≡ tableAfter fates (cond c (read i (txIn r) (r .item .0)) (cond d (commit i (txIn r)) (cond e (abort i (txIn r)) (other i (txIn r))))) seen t
-      three true d e = refl
-      three false true e = refl
-      three false false true = refl
-      three false false false = refl
+  unfolding tableAfter
+  table-other k = rw (← h) (by-access (λ o. t ≡ tableAfter fates o seen t) i r (λ e. refl) (λ e. absurd (k e)) refl refl refl)
 
   pub seen-other : (r .kind ≡ 2 → ⊥) → seen ≡ seenAfter (opOf i q) seen
-  unfolding seenAfter opOf
-  seen-other k = rw (← h, ne-eqb (r .kind) 2 k) (three (eqb (r .kind) 1) (eqb (r .kind) 3) (eqb (r .kind) 4))
-    where
-      three : (c d e : Bool) → seen ≡ seenAfter (cond c (read i (txIn r) (r .item .0)) (cond d (commit i (txIn r)) (cond e (abort i (txIn r)) (other i (txIn r))))) seen
-      three true d e = refl
-      three false true e = refl
-      three false false true = refl
-      three false false false = refl
+  unfolding seenAfter
+  seen-other k = rw (← h) (by-access (λ o. seen ≡ seenAfter o seen) i r (λ e. refl) (λ e. absurd (k e)) refl refl refl)
 
 -- ---- after n records
 
-seen-start : (b : List ℕ) → replicate 1024 0 ≡ seenOf (history b 0)
+seen-array : (p : History) → ByIndex (λ x. cond (any (writeTo x) p) 1 0) 1024 (seenOf p)
 unfolding seenOf
-seen-start b = rw (history-zero b) (tabulate-zeros _ 1024 (λ j. refl))
+seen-array p = by-index _ 1024
 
-left-start : (k : ℕ → Bool) (b : List ℕ) (t : List Amount) → t ≡ leftAfter k (history b 0) t
+left-start : (k : ℕ → Bool) (t : List Amount) → t ≡ leftAfter k [] t
 unfolding leftAfter
-left-start k b t = rw (history-zero b) (sym (tabulate-getD t (pos 0)))
+left-start k t = sym (tabulate-getD t (pos 0))
 
 seen-op : (p : History) (r : Op) → seenAfter r (seenOf p) ≡ seenOf (r ∷ p)
 unfolding seenAfter seenOf
-seen-op p (read t s x) = tabulate-same _ _ 1024 (λ j. refl)
-seen-op p (write t s x b a) =
-    tabulate-put (λ y. cond (any (writeTo y) p) 1 0) (λ y. cond (any (writeTo y) (write t s x b a ∷ p)) 1 0) 1024 x 1 0 (rw (eq-eqb x x refl)) (λ j q. rw q)
-seen-op p (commit t s) = tabulate-same _ _ 1024 (λ j. refl)
-seen-op p (abort t s) = tabulate-same _ _ 1024 (λ j. refl)
-seen-op p (other t s) = tabulate-same _ _ 1024 (λ j. refl)
+seen-op p (read t s x) = refl
+seen-op p (write t s x b a) = by-index-set x 1 0 (seen-array p) (seen-array (write t s x b a ∷ p)) (rw (eq-eqb x x refl)) (λ j q. rw q)
+seen-op p (commit t s) = refl
+seen-op p (abort t s) = refl
+seen-op p (other t s) = refl
 
 -- a write to an item below 1,024
 abbrev Narrow : Op → Type 0
@@ -142,13 +128,14 @@ module _ (k : ℕ → Bool) (l : List Amount) where
 
 module _ (fates : List ℕ) (l : List Amount) where
   seen-at : (p : History) (x : ℕ) → x < 1024 → coded 0 (seenOf p) x ≡ not (any (writeTo x) p)
-  unfolding coded seenOf
-  seen-at p x h = rw (getD-of (λ x. cond (any (writeTo x) p) 1 0) 1024 x 0 h) (byCases (any (writeTo x) p) (λ e. rw e) (λ e. rw e))
+  unfolding coded
+  seen-at p x h = rw (seen-array p .at x 0 h) (byCases (any (writeTo x) p) (λ e. rw e) (λ e. rw e))
 
   put : (p : History) (t s x : ℕ) (b a v : Amount) → amount (coded 1 fates) l (write t s x b a ∷ p) x ≡ v → set (leftAfter (coded 1 fates) p l) x v ≡ leftAfter (coded 1 fates) (write t s x b a ∷ p) l
   unfolding leftAfter amount
   put p t s x b a v e =
-      tabulate-put (amount (coded 1 fates) l p) (amount (coded 1 fates) l (write t s x b a ∷ p)) (length l) x v (pos 0) e (λ j q. amount-apart (coded 1 fates) l t s x b a p j q)
+      by-index-set x v (pos 0) (by-index (amount (coded 1 fates) l p) (length l)) (by-index (amount (coded 1 fates) l (write t s x b a ∷ p)) (length l)) e
+      (λ j q. amount-apart (coded 1 fates) l t s x b a p j q)
 
   leave : (p : History) (t s x : ℕ) (b a : Amount) → amount (coded 1 fates) l (write t s x b a ∷ p) x ≡ amount (coded 1 fates) l p x → leftAfter (coded 1 fates) p l ≡ leftAfter (coded 1 fates) (write t s x b a ∷ p) l
   unfolding leftAfter amount
@@ -182,62 +169,33 @@ module _ (fates : List ℕ) (l : List Amount) where
 
 module _ (b : List ℕ) (n i : ℕ) (k : Ready b n) (h : i < n) where
   narrow-at : Narrow (opOf (suc i) (recordAt b (suc i)))
-  unfolding opOf
   narrow-at =
       let r = recordAt b (suc i) in
-      byCases (eqb (r .kind) 2)
-      (λ e. let z : eqb (r .kind) 1 ≡ false = ne-eqb (r .kind) 1 (λ q. two-one (sym (eqb-true (r .kind) 2 e) ∙ q)) in
-      rw (z, e) (item-write b n r k (passed-right b n (k .passed) i h .formed) (eqb-true (r .kind) 2 e)))
-      (λ e. rw e (three r (eqb (r .kind) 1) (eqb (r .kind) 3) (eqb (r .kind) 4)))
-    where
-      two-one : _≡_ {A = ℕ} 2 1 → ⊥
-      two-one q = omega arith
-
-      three : (r : Record) (l m o : Bool) → Narrow (cond l (read (suc i) (txIn r) (r .item .0)) (cond m (commit (suc i) (txIn r)) (cond o (abort (suc i) (txIn r)) (other (suc i) (txIn r)))))
-      three r true m o = tt
-      three r false true o = tt
-      three r false false true = tt
-      three r false false false = tt
+      by-access Narrow (suc i) r (λ e. tt) (λ e. item-write b n r k (passed-right b n (k .passed) i h .formed) e) tt tt tt
 
 -- ---- the pass
 
-pub seen-first : (b seen : List ℕ) → seen ≡ seenFrom (history b 0) seen
-unfolding seenFrom
-seen-first b seen = rw history-zero
-
-pub table-first : (b fates seen : List ℕ) (t : List Amount) → t ≡ tableFrom fates (history b 0) seen t
-unfolding tableFrom
-table-first b fates seen t = rw history-zero
-
-module _ (b : List ℕ) (i : ℕ) (seen₀ seen : List ℕ) (e : seen ≡ seenFrom (history b i) seen₀) where
-  pub seen-more : (l : List ℕ) → l ≡ seenAfter (opOf (i + 1) (recordAt b (i + 1))) seen → l ≡ seenFrom (history b (i + 1)) seen₀
-  unfolding seenFrom
-  seen-more l q = let z = add-one i in q ∙ rw (z, e, history-suc b i)
-
-  pub table-more : (fates : List ℕ) (t m l : List Amount) → m ≡ tableFrom fates (history b i) seen₀ t → l ≡ tableAfter fates (opOf (i + 1) (recordAt b (i + 1))) seen m
-      → l ≡ tableFrom fates (history b (i + 1)) seen₀ t
-  unfolding tableFrom
-  table-more fates t m l f q = let z = add-one i in q ∙ rw (z, e, f, history-suc b i)
-
-pub seen-done : (b seen₀ seen : List ℕ) (n i : ℕ) → i ≤ n → n ≤ i → seen ≡ seenFrom (history b i) seen₀ → seen ≡ seenFrom (history b n) seen₀
-seen-done b seen₀ seen n i h l e = let z : n ≡ i = omega arith in rw z e
-
-pub table-done : (b fates seen₀ : List ℕ) (n i : ℕ) (t m : List Amount) → i ≤ n → n ≤ i → m ≡ tableFrom fates (history b i) seen₀ t → m ≡ tableFrom fates (history b n) seen₀ t
-table-done b fates seen₀ n i t m h l e = let z : n ≡ i = omega arith in rw z e
+pub replay-turn : (b fates : List ℕ) (i : ℕ) (s : List ℕ × List Amount) (seen l : List ℕ) (t m : List Amount) → (seen, t) ≡ stepped (replayStep b fates) i s
+    → l ≡ seenAfter (opOf (i + 1) (recordAt b (i + 1))) seen → m ≡ tableAfter fates (opOf (i + 1) (recordAt b (i + 1))) seen t
+    → (l, m) ≡ stepped (replayStep b fates) (i + 1) s
+unfolding replayStep
+replay-turn b fates i s seen l t m e p q = stepped-turn (replayStep b fates) i s (seen, t) (l, m) e (λ k. (p k, q k))
 
 -- from no marks at all it is the table left
 
-seen-all : (b : List ℕ) (n : ℕ) → seenFrom (history b n) (replicate 1024 0) ≡ seenOf (history b n)
-unfolding seenFrom
-seen-all b zero = rw history-zero (seen-start b ∙ rw history-zero)
-seen-all b (suc n) = rw (history-suc b n) (ap (seenAfter (opOf (suc n) (recordAt b (suc n)))) (seen-all b n) ∙ seen-op (history b n) (opOf (suc n) (recordAt b (suc n))))
+replay-all : (b fates : List ℕ) (n i : ℕ) (t : List Amount) → Ready b n → i ≤ n
+    → stepped (replayStep b fates) i (replicate 1024 0, t) ≡ (seenOf (history b i), leftAfter (coded 1 fates) (history b i) t)
+unfolding replayStep
+replay-all b fates n zero t k h =
+    let none = by-index-all 0 0 (seen-array []) (λ j. refl) in
+    let old = left-start (coded 1 fates) t in
+    sym (stepped-start (replayStep b fates) _) ∙ rw history-zero (λ v. (none v, old v))
+replay-all b fates n (suc i) t k h =
+    let p = history b i in
+    let r = opOf (suc i) (recordAt b (suc i)) in
+    let new = left-op fates t p r (narrow-at b n i k (omega arith)) in
+    stepped-suc (replayStep b fates) i _ ∙ ap (replayStep b fates (suc i)) (replay-all b fates n i t k (omega arith)) ∙ rw (history-suc b i) (λ v. (seen-op p r v, new v))
 
-left-all : (b fates : List ℕ) (n i : ℕ) (t : List Amount) → Ready b n → i ≤ n → tableFrom fates (history b i) (replicate 1024 0) t ≡ leftAfter (coded 1 fates) (history b i) t
-unfolding tableFrom
-left-all b fates n zero t k h = rw history-zero (left-start (coded 1 fates) b t ∙ rw history-zero)
-left-all b fates n (suc i) t k h =
-    rw (history-suc b i)
-    (rw (seen-all b i, left-all b fates n i t k (omega arith)) (left-op fates t (history b i) (opOf (suc i) (recordAt b (suc i))) (narrow-at b n i k (omega arith))))
-
-pub left-done : (b fates : List ℕ) (n : ℕ) (t m : List Amount) → Ready b n → m ≡ tableFrom fates (history b n) (replicate 1024 0) t → m ≡ leftAfter (coded 1 fates) (history b n) t
-left-done b fates n t m k e = e ∙ left-all b fates n n t k (omega arith)
+pub left-done : (b fates seen : List ℕ) (n : ℕ) (t m : List Amount) → Ready b n → (seen, m) ≡ stepped (replayStep b fates) n (replicate 1024 0, t)
+    → m ≡ leftAfter (coded 1 fates) (history b n) t
+left-done b fates seen n t m k e = ap (λ s. s .1) (e ∙ replay-all b fates n n t k (omega arith))

@@ -3,7 +3,7 @@
 use mathlib.Core.Path.{_≡_}
 use mathlib.Core.Bool.{Bool, cond}
 use mathlib.Core.List.{List, [], _∷_, _++_}
-use Prim.Native.Nat.{ℕ, zero, suc, _+_, _*_, _≤_}
+use Prim.Native.Nat.{ℕ, zero, suc, _*_, _≤_}
 use lib.ListN.{length, getD}
 use Rattle.lists.specs.Tables.{store, coded}
 use Rattle.format.specs.declared.Record.{Record}
@@ -44,8 +44,3 @@ unfoldable pub copyStep : List ℕ → List ℕ → List ℕ → ℕ → List �
 copyStep b fates ranks i out =
     let r : Record =
     recordAt b i in cond (coded 1 fates (txIn r)) (store (recordBytes * getD ranks i 0) (bytesOf (moved ranks r)) out) out
-
--- what records 1 to i write
-unfoldable pub copyFrom : List ℕ → List ℕ → List ℕ → ℕ → List ℕ → List ℕ
-copyFrom b fates ranks zero out = out
-copyFrom b fates ranks (suc i) out = copyStep b fates ranks (suc i) (copyFrom b fates ranks i out)

@@ -2,15 +2,16 @@
 -- goes on from any table and any marks of the items written until then.
 -- Assumes nothing.
 use mathlib.Core.Bool.{Bool, cond}
-use mathlib.Core.List.{List, [], _∷_}
+use mathlib.Core.List.{List}
 use Prim.Native.Nat.{ℕ}
 use lib.ListN.{length, set}
 use Rattle.lists.specs.Search.{any}
 use Rattle.lists.specs.Tables.{tabulate, coded}
+use Rattle.format.specs.Layout.{recordAt}
 use Rattle.format.specs.Limits.{maxItems}
 use Rattle.model.specs.History.{Op, History, Amount, read, write, commit, abort, other, writeTo, initial}
 use Rattle.model.specs.Undo.{replayed}
-use Rattle.journal.specs.Journal.{amountAt}
+use Rattle.journal.specs.Journal.{opOf, amountAt}
 
 -- 1 for each item that was written
 unfoldable pub seenOf : History → List ℕ
@@ -44,12 +45,6 @@ seenAfter (commit t s) seen = seen
 seenAfter (abort t s) seen = seen
 seenAfter (other t s) seen = seen
 
--- ---- what the operations of p do, from the marks and the table before them
-
-unfoldable pub seenFrom : History → List ℕ → List ℕ
-seenFrom [] seen = seen
-seenFrom (r ∷ p) seen = seenAfter r (seenFrom p seen)
-
-unfoldable pub tableFrom : List ℕ → History → List ℕ → List Amount → List Amount
-tableFrom fates [] seen t = t
-tableFrom fates (r ∷ p) seen t = tableAfter fates r (seenFrom p seen) (tableFrom fates p seen t)
+-- what record i of a journal does to marks and table
+unfoldable pub replayStep : List ℕ → List ℕ → ℕ → List ℕ × List Amount → List ℕ × List Amount
+replayStep b fates i s = let r : Op = opOf i (recordAt b i) in (seenAfter r (s .0), tableAfter fates r (s .0) (s .1))

@@ -2,15 +2,14 @@
 ghost use mathlib.Core.Path.{_≡_};
 ghost use mathlib.Core.Bool.{cond};
 ghost use Prim.Native.Nat.{_+_, _*_, _≤_, _<_};
-ghost use lib.Dec.{eqb};
 ghost use lib.ListN.{length, getD, set};
-ghost use Rattle.lists.specs.Tables.{countIf, store, coded};
+ghost use Rattle.lists.specs.Tables.{countIf, store, stepped, coded};
 ghost use Rattle.format.specs.Layout.{recordAt};
 ghost use Rattle.format.specs.Limits.{journalBytes, maxRecords, maxTransaction, transactionSlots, statusBytes};
 ghost use Rattle.journal.specs.Journal.{opOf, history};
 ghost use Rattle.rules.specs.Arrays.{Ready};
-ghost use Rattle.repair.specs.Copying.{Ranked, copyWith, copyStep, copyFrom};
-ghost use Rattle.repair.specs.Replaying.{leftAfter, openedAt, tableWrite, tableAfter, seenAfter, tableFrom, seenFrom};
+ghost use Rattle.repair.specs.Copying.{Ranked, copyWith, copyStep};
+ghost use Rattle.repair.specs.Replaying.{leftAfter, openedAt, tableWrite, tableAfter, seenAfter, replayStep};
 use format::ITEM_SLOTS;
 use format::Key;
 use format::Lsn;
@@ -25,16 +24,9 @@ use format::record_at;
 use format::transaction_at;
 use lists::code_at;
 use lists::number_at;
+use lists::raised;
 use lists::set_code;
 use rules::code_of;
-
-// One more, if the code is v.
-fn raised(count: u32, code: u8, v: u8) -> u32
-    requires { ⌜ count ≤ maxRecords ⌝ }
-    ensures { λ r. ⌜ r ≡ cond (eqb code v) (count + 1) count ⌝ }
-{
-    if code == v { count + 1 } else { count }
-}
 
 // How many transactions have the code v.
 pub fn number_of(codes: &[u8], v: u8) -> u32
@@ -118,7 +110,7 @@ fn copy_records(journal: &[u8], n: u32, fates: &[u8], ranks: &[u32], out: &mut [
     requires { ⌜ (journalBytes n ≤ length (now journal)) × (n ≤ maxRecords) × Ranked (now journal) (now fates) n (now ranks)
         × (journalBytes (getD (now ranks) n 0) ≤ length (now out)) ⌝ }
     ensures { λ _. ⌜ now (out .exit)
-        ≡ copyFrom (now (journal .entry)) (now (fates .entry)) (now (ranks .entry)) n (now (out .entry)) ⌝ }
+        ≡ stepped (copyStep (now (journal .entry)) (now (fates .entry)) (now (ranks .entry))) n (now (out .entry)) ⌝ }
 {
     let mut i = 0;
     while i < n {
@@ -209,9 +201,8 @@ fn replay_record(journal: &[u8], n: u32, fates: &[u8], seen: &mut [u8], table: &
 // Records 1 to n in the table, from any table and any marks of the items written until then.
 pub fn replay_records(journal: &[u8], n: u32, fates: &[u8], seen: &mut [u8], table: &mut [i32])
     requires { ⌜ (journalBytes n ≤ length (now journal)) × (n ≤ maxRecords) ⌝ }
-    ensures { λ _. ⌜ (now (seen .exit) ≡ seenFrom (history (now (journal .entry)) n) (now (seen .entry)))
-        × (now (table .exit)
-        ≡ tableFrom (now (fates .entry)) (history (now (journal .entry)) n) (now (seen .entry)) (now (table .entry))) ⌝ }
+    ensures { λ _. ⌜ (now (seen .exit), now (table .exit))
+        ≡ stepped (replayStep (now (journal .entry)) (now (fates .entry))) n (now (seen .entry), now (table .entry)) ⌝ }
 {
     let mut i = 0;
     while i < n {

@@ -1,20 +1,18 @@
--- What an accepted take-back says of its input, how long a report is, and the report by what take-back left.
+-- What an accepted take-back says of its input, and the report by what take-back left.
 -- Assumes nothing.
-use mathlib.Core.Path.{_≡_, refl, ap}
+use mathlib.Core.Path.{_≡_, refl, sym, ap, _∙_}
 use mathlib.Core.List.{List}
-use Prim.Native.Nat.{ℕ, zero, suc, _-_, _*_, _≤_}
-use native.Mathlib.Nat.{mul-suc, sub-zero}
+use Prim.Native.Nat.{ℕ, _-_, _/_, _≤_}
+use native.Mathlib.Nat.{sub-zero}
 use native.Mathlib.Omega.{arith}
-use lib.Dec.{eqb}
-use lib.ListN.{length, take, drop, getD, replicate, length-append}
+use lib.ListN.{length, take, drop, replicate}
 use lib.Seq.{take-at}
 use borrow.Author.Tests.{ltb-false}
-use Rattle.lists.specs.Tables.{each, store}
-use Rattle.lists.proofs.BoolLaws.{byCases}
-use Rattle.lists.proofs.TablesLaws.{each-zero, each-suc, store-front}
-use Rattle.model.specs.History.{Amount, sameAmount}
+use Rattle.lists.specs.Tables.{store}
+use Rattle.lists.proofs.TablesLaws.{store-front}
+use Rattle.model.specs.History.{Amount}
 use Rattle.journal.specs.Inputs.{Inputs, inputsOf}
-use Rattle.journal.specs.Journal.{count, amountAt}
+use Rattle.journal.specs.Journal.{count}
 use Rattle.journal.specs.Refusals.{short}
 use Rattle.journal.specs.Calls.{Answer, refused, accepted, UndoTotals, UndoResult, undo}
 use Rattle.journal.proofs.Checked.{Checks}
@@ -24,19 +22,33 @@ use Rattle.demands.specs.Days.{accepts}
 use Rattle.demands.specs.Undoing.{copyIn}
 use Rattle.demands.proofs.DaysLaws.{pass-checks}
 use Rattle.certified.specs.Promises.{UndoPromise}
-use Rattle.text.specs.Lines.{undoneLine, changeLine, refusedLine}
-use Rattle.report.specs.Output.{undoneIn, changeIn, lines, linesOf, amounts, transactions, undoFiles, reportOf}
-use Rattle.report.specs.Counting.{recordsIn}
+use Rattle.text.specs.Puts.{Fits, Put}
+use Rattle.lines.specs.AnswerLines.{lines}
+use Rattle.lines.specs.Counting.{recordsIn}
+use Rattle.lines.proofs.LengthLaws.{length-lines}
+use Rattle.report.specs.Output.{linesOf, amounts, transactions, undoFiles, reportOf}
 use Rattle.report.specs.Certified.{Reports, ReportsFiles}
-use Rattle.text.specs.Puts.{Put}
-use Rattle.text.proofs.PutsLaws.{length-none, length-flatten}
-use Rattle.text.proofs.DecimalLaws.{length-decimal, length-decimalZ}
+use Rattle.report.proofs.OutputLaws.{length-amounts, length-transactions}
+
+-- ---- a list at the front of a longer one
+
+front : {A : Type 0} {v m : List A} {n k : ℕ} (l : List A) → length v ≡ k → n ≡ k → m ≡ store 0 v l → take (n - 0) m ≡ v
+front {v = v} {n = n} l h e g = rw (g, sub-zero, store-front) (take-at v _ n (h ∙ sym e))
+
+pub amounts-front : (file : List ℕ) (l : List Amount) {m : List Amount} {n : ℕ} → n ≡ length file / 4 → m ≡ store 0 (amounts file) l → take (n - 0) m ≡ amounts file
+amounts-front file l e g = front l (length-amounts file) e g
+
+pub transactions-front : (file l : List ℕ) {m : List ℕ} {n : ℕ} → n ≡ length file / 2 → m ≡ store 0 (transactions file) l → take (n - 0) m ≡ transactions file
+transactions-front file l e g = front l (length-transactions file) e g
+
+put-front : {v l m : List ℕ} {n : ℕ} → Put 0 v l m n → take n m ≡ v
+put-front {v} {l} {n = n} p = rw (p .holds, store-front) (take-at v (drop (length v) l) n (omega (arith, p .size)))
 
 -- ---- an accepted take-back: the journal has a head, the table no more than 1,024 items
 
 module _ (d : Inputs) (bad status out : List ℕ) {u : UndoResult} (kept : UndoPromise d bad status out u) {c : UndoTotals} (e : u .answer ≡ accepted c) where
   accepted-checks : Checks d
-  accepted-checks = pass-checks (d .journal) (d .table) (kept .acceptance .0 (ap accepts e) .0 .pass)
+  accepted-checks = pass-checks d (kept .acceptance .0 (ap accepts e) .0 .pass)
 
   accepted-head : 20 ≤ length (d .journal)
   unfolding short
@@ -51,49 +63,16 @@ module _ (d : Inputs) (bad status out : List ℕ) {u : UndoResult} (kept : UndoP
   unfolding recordsIn
   accepted-records = let n = kept .repaired c e .left .size in omega arith
 
--- ---- the length of each line
-
-length-refusedLine : (n p : ℕ) → length (refusedLine n p) ≤ 50
-length-refusedLine n p = simp (length-flatten, length-none) (omega (arith, length-decimal n, length-decimal p))
-
-length-undoneLine : (s : ℕ) → length (undoneLine s) ≤ 26
-length-undoneLine s = simp (length-flatten, length-none) (omega (arith, length-decimal s))
-
-length-changeLine : (x : ℕ) (old new : Amount) → length (changeLine x old new) ≤ 70
-length-changeLine x old new = simp (length-flatten, length-none) (omega (arith, length-decimal x, length-decimalZ old, length-decimalZ new))
-
-length-undoneIn : (status : List ℕ) (s : ℕ) → length (undoneIn status s) ≤ 26
-unfolding undoneIn
-length-undoneIn status s = byCases (eqb (getD status s 0) 2) (λ e. rw e (length-undoneLine s)) (λ e. rw e (omega arith))
-
-length-changeIn : (old new : List Amount) (x : ℕ) → length (changeIn old new x) ≤ 70
-unfolding changeIn
-length-changeIn old new x =
-    byCases (sameAmount (amountAt old x) (amountAt new x)) (λ e. rw e (omega arith)) (λ e. rw e (length-changeLine x _ _))
-
-length-each : (f : ℕ → List ℕ) (k : ℕ) → ((j : ℕ) → length (f j) ≤ k) → (i n : ℕ) → length (each f i n) ≤ k * n
-length-each f k h i zero = rw (each-zero f i) (omega arith)
-length-each f k h i (suc n) =
-    rw (each-suc f i n, length-append) (omega (arith, h i, length-each f k h (suc i) n, mul-suc k n))
-
--- ---- the length of a report: 55 + 26 × 1,024 + 70 × 1,024 + 67 at most
-
-length-lines : (n : ℕ) (m : UndoTotals → ℕ) (old new : List Amount) (status : List ℕ) (a : Answer UndoTotals) → ((c : UndoTotals) → a ≡ accepted c → length old ≤ 1024)
-    → length (lines n m old new status a) ≤ 100000
-unfolding lines
-length-lines n m old new status (refused k p) h = omega (arith, length-refusedLine k p)
-length-lines n m old new status (accepted c) h =
-    simp (length-flatten, length-none)
-    (omega (arith, h c refl, length-decimal n, length-decimal (m c), length-each (undoneIn status) 26 (length-undoneIn status) 1 1024, length-each (changeIn old new) 70 (length-changeIn old new) 0 (length old), length-decimal (c .surviving), length-decimal (c .undone), length-decimal (c .aborted)))
+-- ---- the length of a report
 
 module _ (d : Inputs) (bad status out : List ℕ) {u : UndoResult} (kept : UndoPromise d bad status out u) where
-  pub length-report : length (linesOf d u) ≤ 100000
+  length-report : length (linesOf d u) ≤ 100000
   unfolding linesOf
   length-report = length-lines _ _ (d .table) _ _ (u .answer) (λ c e. accepted-items d bad status out kept e)
 
   -- ---- the report by what the call answered and left, the record counts as the code has them
 
-  pub reported : (n : ℕ) → (20 ≤ length (d .journal) → n ≡ count (d .journal)) → lines n recordsIn (d .table) (u .table) (u .status) (u .answer) ≡ linesOf d u
+  reported : (n : ℕ) → (20 ≤ length (d .journal) → n ≡ count (d .journal)) → lines n recordsIn (d .table) (u .table) (u .status) (u .answer) ≡ linesOf d u
   unfolding linesOf lines
   reported n en = go (u .answer) refl
     where
@@ -102,13 +81,15 @@ module _ (d : Inputs) (bad status out : List ℕ) {u : UndoResult} (kept : UndoP
       go (refused k p) e = refl
       go (accepted c) e = rw (en (accepted-head d bad status out kept e), accepted-records d bad status out kept e)
 
--- ---- a list at the front of a longer one
+  -- these lines fit, and where they are written the text reports the call
 
-pub front : {A : Type 0} (v l : List A) (n : ℕ) → length v ≡ n → take (n - 0) (store 0 v l) ≡ v
-front v l n e = rw (sub-zero, store-front) (take-at v _ n e)
+  module _ (n : ℕ) (en : 20 ≤ length (d .journal) → n ≡ count (d .journal)) where
+    pub reported-fits : {l : List ℕ} → 100000 ≤ length l → Fits 0 (lines n recordsIn (d .table) (u .table) (u .status) (u .answer)) l
+    reported-fits h = rw (reported n en) (record { room = omega (arith, length-report) })
 
-pub put-front : {v l m : List ℕ} {n : ℕ} → Put 0 v l m n → take n m ≡ v
-put-front {v} {l} {n = n} p = rw (p .holds, store-front) (take-at v (drop (length v) l) n (omega (arith, p .size)))
+    pub reported-put : {l m : List ℕ} {r : ℕ} → u ≡ undo d bad status out → Put 0 (lines n recordsIn (d .table) (u .table) (u .status) (u .answer)) l m r
+        → (Put 0 (linesOf d (undo d bad status out)) l m r) × Reports d bad status out (take r m)
+    reported-put is p = let text = rw (reported n en) at p in (rw is at text, record { result = u; promise = kept; lines = put-front text })
 
 -- ---- the report on the files, by their entries
 
@@ -121,5 +102,7 @@ module _ (journal tableFile badFile : List ℕ) {old : List Amount} {bad : List 
   pub reports-files : {text : List ℕ} → Reports (inputsOf journal old) bad (replicate 1025 0) (replicate 64020 0) text → ReportsFiles journal tableFile badFile text
   reports-files r = rw (eo, eb) at r
 
-pub length-reported : {d : Inputs} {bad status out text : List ℕ} → Reports d bad status out text → length text ≤ 100000
-length-reported {d} {bad} {status} {out} r = rw (r .lines) (length-report d bad status out (r .promise))
+-- written, it ends in the room for any report
+pub length-put : {v l m : List ℕ} {n : ℕ} {d : Inputs} {bad status out : List ℕ} → Put 0 v l m n → Reports d bad status out (take n m) → n ≤ 100000
+length-put {d = d} {bad = bad} {status = status} {out = out} p r =
+    omega (arith, p .size, ap length (put-front p), ap length (r .lines), length-report d bad status out (r .promise))

@@ -1,4 +1,3 @@
 pub mod Output
-pub mod Counting
 pub mod Printed
 pub mod Certified

@@ -25,7 +25,7 @@ use Rattle.rules.specs.Recent.{endCode, lastWrite, baseWrite}
 use Rattle.rules.specs.Arrays.{Ready, endsOf, writesOf, basesOf}
 use Rattle.rules.proofs.Recent.{own-write, base-first, standing-last}
 use Rattle.rules.proofs.Found.{base-found, found-none, found-bound, found-some, passing-history}
-use Rattle.rules.proofs.ArraysLaws.{ends-at, bases-at, length-ends, length-bases}
+use Rattle.rules.proofs.ArraysLaws.{ends-array, bases-array}
 use Rattle.rules.proofs.ReadersLaws.{last-some, last-range}
 
 some-same : {a b : Op} → some a ≡ some b → a ≡ b
@@ -48,11 +48,11 @@ base-some x p k {w} e =
     (u, base-first x p k e ∙ q, write-to (txOf w) x u t)
 
 pub bases-in : (b : List ℕ) (n x : ℕ) (l : List ℕ) → l ≡ basesOf (history b n) → x < 1024 → x < length l
-bases-in b n x l e h = rw (e, length-bases (history b n)) h
+bases-in b n x l e h = rw (e, bases-array (history b n) .size) h
 
 pub base-long : (b : List ℕ) (n x f : ℕ) (l : List ℕ) → Ready b n → l ≡ basesOf (history b n) → x < 1024 → f ≡ getD l x 0 → 20 * (f + 1) ≤ length b
 base-long b n x f l k e h q =
-    let z : f ≤ n = rw (q, e, bases-at (history b n) x h) (found-bound (base-found x b n)) in omega (arith, k .long)
+    let z : f ≤ n = rw (q, e, bases-array (history b n) .at x 0 h) (found-bound (base-found x b n)) in omega (arith, k .long)
 
 module _ (b : List ℕ) (n x w v : ℕ) (l m : List ℕ) (k : Ready b n) (e : l ≡ writesOf (history b n)) (h : x < 1024) (q : w ≡ getD l x 0)
     (z : getD l x 0 ≡ 0 → ⊥) (t : v ≡ txIn (recordAt b w)) (g : m ≡ endsOf (history b n)) where
@@ -68,8 +68,8 @@ module _ (b : List ℕ) (n x w v : ℕ) (l m : List ℕ) (k : Ready b n) (e : l 
   end-at : getD m v 0 ≡ endCode (history b n) (txOf (opOf w (recordAt b w)))
   end-at =
       let a = last-range b n x w l k e h q v m (λ y. z (sym q ∙ y)) t g in
-      let d : v < 1025 = omega (arith, length-ends (history b n), ap length g) in
-      rw (g, ends-at (history b n) v d, t, txOf-opOf w (recordAt b w))
+      let d : v < 1025 = omega (arith, ends-array (history b n) .size, ap length g) in
+      rw (g, ends-array (history b n) .at v 0 d, t, txOf-opOf w (recordAt b w))
 
   stands : (d : Amount) → standing d (history b n) x ≡ cond (eqb (getD m v 0) 2) (beforeIn (baseWrite (history b n) x) (pos 0)) (afterOf (opOf w (recordAt b w)) (pos 0))
   stands d = standing-last d x (history b n) (passing-history b n (k .passed)) last-one ∙ rw (last-one, end-at)
@@ -82,7 +82,7 @@ module _ (b : List ℕ) (n x w v : ℕ) (l m : List ℕ) (k : Ready b n) (e : l 
       → toZ w32 (ofZ w32 (r .before)) ≡ standing (pos 0) (history b n) x
   standing-before r o j end d y i p c f =
       let (u, s, a) = base-some x (history b n) (passing-history b n (k .passed)) last-one in
-      let tag : j ≡ tagIn (baseWrite (history b n) x) = p ∙ rw i (bases-at (history b n) x h) in
+      let tag : j ≡ tagIn (baseWrite (history b n) x) = p ∙ rw i (bases-array (history b n) .at x 0 h) in
       let found = found-some (base-found x b n) (λ zero. Option·none-ne-some u (sym (found-none (base-found x b n) zero) ∙ s)) in
       let same : u ≡ opOf j (recordAt b j) = some-same (sym s ∙ found ∙ ap (λ t. some (opOf t (recordAt b t))) (sym tag)) in
       toZ-ofZ w32 (r .before) f ∙ ap (λ u. u .before) c

@@ -1,7 +1,7 @@
 -- The working arrays after one record more, by its kind.
 -- Assumes nothing.
 use mathlib.Core.Path.{_≡_, refl, sym, _∙_, ap}
-use mathlib.Core.Bool.{Bool, true, false, cond}
+use mathlib.Core.Bool.{Bool, false, cond}
 use mathlib.Core.List.{List, _∷_}
 use Prim.Native.Nat.{ℕ, suc, _+_, _<_, _≤_}
 use native.Mathlib.Omega.{arith}
@@ -14,17 +14,18 @@ use Rattle.lists.specs.Search.{first}
 use Rattle.lists.proofs.BoolLaws.{byCases}
 use Rattle.format.specs.declared.Record.{Record}
 use Rattle.format.specs.Layout.{recordAt}
-use Rattle.model.specs.History.{Op, read, write, commit, abort, txOf, tagOf, tagIn, ofTx}
+use Rattle.model.specs.History.{Op, read, write, txOf, tagOf, tagIn, ofTx}
 use Rattle.journal.specs.Journal.{items, txIn, opOf, history}
 use Rattle.journal.specs.Refusals.{malformed}
 use Rattle.journal.proofs.Records.{txOf-opOf, tagOf-opOf, history-suc}
+use Rattle.journal.proofs.Unrefused.{opOf-read, opOf-write, opOf-commit, opOf-abort}
 use Rattle.fields.proofs.Fields.{formed-range, formed-kinds}
 use Rattle.rules.specs.declared.Touched.{Touched}
 use Rattle.rules.specs.Recent.{lastWrite, byTx}
 use Rattle.rules.specs.Arrays.{Ready, Linked, State, endsOf, firstsOf, writesOf, basesOf, readsOf, readBefore, firstPut}
 use Rattle.rules.specs.Answers.{writerOf}
 use Rattle.rules.proofs.Found.{first-found, found-none, found-some}
-use Rattle.rules.proofs.ArraysLaws.{firsts-at, reads-at, firsts-set, firsts-same, ends-commit, ends-abort, writes-write, bases-again, bases-write, reads-read, reads-write, length-firsts, length-ends, length-writes, length-bases, length-reads, op-read, op-write, op-commit, op-abort}
+use Rattle.rules.proofs.ArraysLaws.{ends-array, firsts-array, writes-array, bases-array, reads-array, firsts-set, firsts-same, ends-commit, ends-abort, writes-write, bases-again, bases-write, reads-read, reads-write}
 use Rattle.rules.proofs.RuleLaws.{item-read, item-write}
 
 -- ---- leaves
@@ -57,7 +58,7 @@ linked-read b n l m u i h e =
       link = λ k a c g.
           byCases (eqb k (suc n))
           (λ q. let z = eqb-true k (suc n) q in
-          rw z (getD-set-same l (suc n) _ 0 (omega (arith, i .size)) ∙ rw e (reads-at (history b n) (recordAt b (suc n) .item .0) h)))
+          rw z (getD-set-same l (suc n) _ 0 (omega (arith, i .size)) ∙ rw e (reads-array (history b n) .at (recordAt b (suc n) .item .0) 0 h)))
           (λ q. let d = eqb-false k (suc n) q in getD-set-other l (suc n) k _ 0 d ∙ i .link k a (omega arith) g);
     }
 
@@ -71,10 +72,10 @@ firsts-step b n l h e =
     let o = opOf (suc n) (recordAt b (suc n)) in
     let t : txOf o ≡ s = txOf-opOf (suc n) (recordAt b (suc n)) in
     let g : tagOf o ≡ suc n = tagOf-opOf (suc n) (recordAt b (suc n)) in
-    let a : getD l s 0 ≡ tagIn (first (ofTx s) (history b n)) = rw e (firsts-at (history b n) s h) in
+    let a : getD l s 0 ≡ tagIn (first (ofTx s) (history b n)) = rw e (firsts-array (history b n) .at s 0 h) in
     byCases (eqb (getD l s 0) 0)
     (λ q. let none' = found-none (first-found (ofTx s) b n) (sym a ∙ eqb-true (getD l s 0) 0 q) in
-    rw (q, e) (rw (t, g) at (firsts-set (history b n) o (rw t h) (rw t none'))))
+    rw (q, e) (rw (t, g) at (firsts-set (history b n) o (rw t none'))))
     (λ q. let some' = found-some (first-found (ofTx s) b n) (λ z. eqb-false (getD l s 0) 0 q (a ∙ z)) in
     rw (q, e) (firsts-same (history b n) o (ap (λ v. first (ofTx v) (history b n)) t ∙ some')))
 
@@ -110,11 +111,11 @@ module _ (b : List ℕ) (n : ℕ) (r : Record) (ends firsts writes bases reads l
   unfolding endsOf writesOf basesOf
   state-read reads' links' q c d =
       let x = item-read b n r k f q in
-      state (read (suc n) (txIn r) (r .item .0)) (op-read (suc n) r q)
+      state (read (suc n) (txIn r) (r .item .0)) (opOf-read (suc n) r q)
       (s .ended)
       (s .written)
       (s .based)
-      (d ∙ rw (add-one, s .lastRead) (reads-read (history b n) (suc n) (txIn r) (r .item .0) x))
+      (d ∙ rw (add-one, s .lastRead) (reads-read (history b n) (suc n) (txIn r) (r .item .0)))
       (rw (c, add-one, here) (linked-read b n links reads u (s .linked) (rw here at x) (s .lastRead)))
 
   not-read : (m : ℕ) → r .kind ≡ m → (m ≡ 1 → ⊥) → recordAt b (suc n) .kind ≡ 1 → ⊥
@@ -125,49 +126,35 @@ module _ (b : List ℕ) (n : ℕ) (r : Record) (ends firsts writes bases reads l
       → State b (n + 1) ends firsts' writes' bases' reads' links
   unfolding writerOf endsOf
   state-write writes' bases' reads' t q v c d g =
-      let x = item-write b n r k f q in
       let y = r .item .0 in
-      state (write (suc n) (txIn r) y (r .before) (r .after)) (op-write (suc n) r q)
+      state (write (suc n) (txIn r) y (r .before) (r .after)) (opOf-write (suc n) r q)
       (s .ended)
-      (c ∙ rw (add-one, s .written) (writes-write (history b n) (suc n) (txIn r) y (r .before) (r .after) x))
+      (c ∙ rw (add-one, s .written) (writes-write (history b n) (suc n) (txIn r) y (r .before) (r .after)))
       (d ∙ rw (add-one, v, s .based)
       (byCases (byTx (lastWrite (history b n) y) (txIn r))
       (λ z. rw z (bases-again (history b n) (suc n) (txIn r) y (r .before) (r .after) z))
-      (λ z. rw z (bases-write (history b n) (suc n) (txIn r) y (r .before) (r .after) x z))))
-      (g ∙ rw (s .lastRead) (reads-write (history b n) (suc n) (txIn r) y (r .before) (r .after) x))
+      (λ z. rw z (bases-write (history b n) (suc n) (txIn r) y (r .before) (r .after) z))))
+      (g ∙ rw (s .lastRead) (reads-write (history b n) (suc n) (txIn r) y (r .before) (r .after)))
       (linked-other b n links (s .linked) (not-read 2 q (λ z. eqb-false 2 1 refl z)))
 
-  pub state-commit : (ends' : List ℕ) → r .kind ≡ 3 → ends' ≡ set ends (txIn r) 1 → State b (n + 1) ends' firsts' writes bases reads links
-  unfolding writesOf basesOf readsOf
-  state-commit ends' q c =
-      let g = formed-range (items b) r f in
-      state (commit (suc n) (txIn r)) (op-commit (suc n) r q)
-      (c ∙ rw (s .ended) (ends-commit (history b n) (suc n) (txIn r) (omega arith)))
-      (s .written)
-      (s .based)
-      (s .lastRead)
-      (linked-other b n links (s .linked) (not-read 3 q (λ z. eqb-false 3 1 refl z)))
-
-  pub state-abort : (ends' : List ℕ) → r .kind ≡ 4 → ends' ≡ set ends (txIn r) 2 → State b (n + 1) ends' firsts' writes bases reads links
-  unfolding writesOf basesOf readsOf
-  state-abort ends' q c =
-      let g = formed-range (items b) r f in
-      state (abort (suc n) (txIn r)) (op-abort (suc n) r q)
-      (c ∙ rw (s .ended) (ends-abort (history b n) (suc n) (txIn r) (omega arith)))
-      (s .written)
-      (s .based)
-      (s .lastRead)
-      (linked-other b n links (s .linked) (not-read 4 q (λ z. eqb-false 4 1 refl z)))
+  ended : (o : Op) (m c : ℕ) → r .kind ≡ m → (m ≡ 1 → ⊥) → opOf (suc n) r ≡ o → set (endsOf (history b n)) (txIn r) c ≡ endsOf (o ∷ history b n)
+      → writesOf (history b n) ≡ writesOf (o ∷ history b n) → basesOf (history b n) ≡ basesOf (o ∷ history b n) → readsOf (history b n) ≡ readsOf (o ∷ history b n)
+      → {ends' : List ℕ} → ends' ≡ set ends (txIn r) c → State b (n + 1) ends' firsts' writes bases reads links
+  ended o m c q h z v w d g y =
+      state o z (y ∙ rw (s .ended) v) (s .written ∙ w) (s .based ∙ d) (s .lastRead ∙ g) (linked-other b n links (s .linked) (not-read m q h))
 
   -- a record that is no read and no write is an end
-  pub state-end : (ends' : List ℕ) (e : ℕ) → (r .kind ≡ 1 → ⊥) → (r .kind ≡ 2 → ⊥) → e ≡ cond (eqb (r .kind) 3) 1 2 → ends' ≡ set ends (txIn r) e
+  pub state-end : (ends' : List ℕ) (c : ℕ) → (r .kind ≡ 1 → ⊥) → (r .kind ≡ 2 → ⊥) → c ≡ cond (eqb (r .kind) 3) 1 2 → ends' ≡ set ends (txIn r) c
       → State b (n + 1) ends' firsts' writes bases reads links
-  state-end ends' e x y v c =
+  unfolding writesOf basesOf readsOf
+  state-end ends' c x y v w =
       byCases (eqb (r .kind) 3)
-      (λ z. state-commit ends' (eqb-true (r .kind) 3 z) (rw (v, z) at c))
+      (λ z. let q = eqb-true (r .kind) 3 z in
+      ended _ 3 1 q (eqb-false 3 1 refl) (opOf-commit (suc n) r q) (ends-commit (history b n) (suc n) (txIn r)) refl refl refl (rw (v, z) at w))
       (λ z. byCases (eqb (r .kind) 4)
-      (λ w. state-abort ends' (eqb-true (r .kind) 4 w) (rw (v, z) at c))
-      (λ w. absurd (formed-kinds (items b) r f x y (eqb-false (r .kind) 3 z) (eqb-false (r .kind) 4 w))))
+      (λ e. let q = eqb-true (r .kind) 4 e in
+      ended _ 4 2 q (eqb-false 4 1 refl) (opOf-abort (suc n) r q) (ends-abort (history b n) (suc n) (txIn r)) refl refl refl (rw (v, z) at w))
+      (λ e. absurd (formed-kinds (items b) r f x y (eqb-false (r .kind) 3 z) (eqb-false (r .kind) 4 e))))
 
 pub end-commit : (kind : ℕ) → kind ≡ 3 → _≡_ {A = ℕ} 1 (cond (eqb kind 3) 1 2)
 end-commit kind e = rw (eq-eqb kind 3 e)
@@ -179,25 +166,25 @@ end-abort kind e = rw (ne-eqb kind 3 e)
 
 module _ (b : List ℕ) (n : ℕ) (r : Record) (ends firsts writes bases reads links : List ℕ) (k : Ready b n) (s : State b n ends firsts writes bases reads links) (f : malformed (items b) r ≡ false) where
   pub tx-firsts : txIn r < length firsts
-  tx-firsts = let g = formed-range (items b) r f in rw (s .begun, length-firsts (history b n)) (omega arith)
+  tx-firsts = let g = formed-range (items b) r f in rw (s .begun, firsts-array (history b n) .size) (omega arith)
 
   pub tx-ends : txIn r < length ends
-  tx-ends = let g = formed-range (items b) r f in rw (s .ended, length-ends (history b n)) (omega arith)
+  tx-ends = let g = formed-range (items b) r f in rw (s .ended, ends-array (history b n) .size) (omega arith)
 
   pub read-reads : r .kind ≡ 1 → r .item .0 < length reads
-  read-reads e = rw (s .lastRead, length-reads (history b n)) (item-read b n r k f e)
+  read-reads e = rw (s .lastRead, reads-array (history b n) .size) (item-read b n r k f e)
 
   pub read-links : n < 3200 → n + 1 < length links
   read-links u = omega (arith, s .linked .size)
 
   pub write-writes : r .kind ≡ 2 → r .item .0 < length writes
-  write-writes e = rw (s .written, length-writes (history b n)) (item-write b n r k f e)
+  write-writes e = rw (s .written, writes-array (history b n) .size) (item-write b n r k f e)
 
   pub write-bases : r .kind ≡ 2 → r .item .0 < length bases
-  write-bases e = rw (s .based, length-bases (history b n)) (item-write b n r k f e)
+  write-bases e = rw (s .based, bases-array (history b n) .size) (item-write b n r k f e)
 
   pub write-reads : r .kind ≡ 2 → r .item .0 < length reads
-  write-reads e = rw (s .lastRead, length-reads (history b n)) (item-write b n r k f e)
+  write-reads e = rw (s .lastRead, reads-array (history b n) .size) (item-write b n r k f e)
 
 pub bases-else : (again : Bool) (l m : List ℕ) → again ≡ false → m ≡ cond again l m
 bases-else again l m e = rw e

@@ -19,7 +19,7 @@ use Rattle.rules.specs.Recent.{otherActive, lastWrite, readsSince, newes
 use Rattle.rules.specs.Arrays.{Ready, Linked, endsOf, writesOf, readsOf, readBefore}
 use Rattle.rules.specs.Answers.{writerOf, readersOf, looked}
 use Rattle.rules.proofs.Found.{latest-found, found-none, found-bound, found-some, passed-range}
-use Rattle.rules.proofs.ArraysLaws.{ends-at, writes-at, reads-at, length-ends, length-writes, length-reads}
+use Rattle.rules.proofs.ArraysLaws.{ends-array, writes-array, reads-array}
 use Rattle.rules.proofs.Walk.{ReadAt, among, newest-bound, newest-is-read, among-newest, among-none, among-step, before-less, before-read}
 
 module _ (ends : List ℕ) (s v : ℕ) where
@@ -42,10 +42,10 @@ abbrev pub nobody : Touched
 nobody = record { other = false; own = false }
 
 module _ (b : List ℕ) (n x w : ℕ) (l : List ℕ) (k : Ready b n) (e : l ≡ writesOf (history b n)) (h : x < 1024) (q : w ≡ getD l x 0) where
-  pub last-tag : w ≡ tagIn (lastWrite (history b n) x)
-  last-tag = q ∙ rw e (writes-at (history b n) x h)
+  last-tag : w ≡ tagIn (lastWrite (history b n) x)
+  last-tag = q ∙ rw e (writes-array (history b n) .at x 0 h)
 
-  pub last-le : w ≤ n
+  last-le : w ≤ n
   last-le = rw last-tag (found-bound (latest-found (writeTo x) b n))
 
   pub last-long : 20 * (w + 1) ≤ length b
@@ -61,7 +61,7 @@ module _ (b : List ℕ) (n x w : ℕ) (l : List ℕ) (k : Ready b n) (e : l ≡ 
   pub last-range : (v : ℕ) (m : List ℕ) → (w ≡ 0 → ⊥) → v ≡ txIn (recordAt b w) → m ≡ endsOf (history b n) → v < length m
   last-range v m z y f =
       let r = passed-range b n (k .passed) w (omega arith) last-le in
-      rw (f, length-ends (history b n)) (omega arith)
+      rw (f, ends-array (history b n) .size) (omega arith)
 
   pub last-nobody : (s : ℕ) → w ≡ 0 → nobody ≡ writerOf (history b n) s x
   unfolding writerOf
@@ -72,14 +72,14 @@ module _ (b : List ℕ) (n x w : ℕ) (l : List ℕ) (k : Ready b n) (e : l ≡ 
   unfolding writerOf looked
   last-looked s v m r z y f g =
       let c = last-range v m z y f in
-      let d : v < 1025 = omega (arith, length-ends (history b n), ap length f) in
-      g ∙ rw (last-some z, txOf-opOf w (recordAt b w), f, ends-at (history b n) v d, y)
+      let d : v < 1025 = omega (arith, ends-array (history b n) .size, ap length f) in
+      g ∙ rw (last-some z, txOf-opOf w (recordAt b w), f, ends-array (history b n) .at v 0 d, y)
 
 pub writes-in : (b : List ℕ) (n x : ℕ) (l : List ℕ) → l ≡ writesOf (history b n) → x < 1024 → x < length l
-writes-in b n x l e h = rw (e, length-writes (history b n)) h
+writes-in b n x l e h = rw (e, writes-array (history b n) .size) h
 
 pub reads-in : (b : List ℕ) (n x : ℕ) (l : List ℕ) → l ≡ readsOf (history b n) → x < 1024 → x < length l
-reads-in b n x l e h = rw (e, length-reads (history b n)) h
+reads-in b n x l e h = rw (e, reads-array (history b n) .size) h
 
 -- ---- the readers since
 
@@ -92,7 +92,7 @@ pub record Walked (b : List ℕ) (n s x : ℕ) (f : Touched) (k : ℕ) (all : To
 
 pub walked-start : (b : List ℕ) (n s x : ℕ) (f : Touched) (k : ℕ) (l : List ℕ) → l ≡ readsOf (history b n) → x < 1024 → k ≡ getD l x 0 → Walked b n s x f k f
 walked-start b n s x f k l e h q =
-    let z : k ≡ newest (readsSince x (history b n)) = q ∙ rw e (reads-at (history b n) x h) in
+    let z : k ≡ newest (readsSince x (history b n)) = q ∙ rw e (reads-array (history b n) .at x 0 h) in
     rw z
     (record {
       low = newest-bound b x n;
@@ -111,7 +111,7 @@ module _ (b : List ℕ) (n s x : ℕ) (f : Touched) (k : ℕ) (all : Touched) (w
   pub walked-range : (v : ℕ) (m : List ℕ) → Ready b n → (k ≡ 0 → ⊥) → v ≡ txIn (recordAt b k) → m ≡ endsOf (history b n) → v < length m
   walked-range v m r z y e =
       let a = passed-range b n (r .passed) k (omega arith) (w .low) in
-      rw (e, length-ends (history b n)) (omega arith)
+      rw (e, ends-array (history b n) .size) (omega arith)
 
   pub walked-less : (l : List ℕ) (j : ℕ) → Linked b n l → (k ≡ 0 → ⊥) → j ≡ getD l k 0 → j < k
   walked-less l j i z q = rw (q, i .link k (omega arith) (w .low) (w .read z .kind)) (before-less b k z)
@@ -121,10 +121,10 @@ module _ (b : List ℕ) (n s x : ℕ) (f : Touched) (k : ℕ) (all : Touched) (w
   unfolding looked
   walked-step v m l j more r z y e g i q =
       let c = walked-range v m r z y e in
-      let d : v < 1025 = omega (arith, length-ends (history b n), ap length e) in
+      let d : v < 1025 = omega (arith, ends-array (history b n) .size, ap length e) in
       let t : j ≡ readBefore b k = q ∙ i .link k (omega arith) (w .low) (w .read z .kind) in
       let less = walked-less l j i z q in
-      rw (g, e, ends-at (history b n) v d)
+      rw (g, e, ends-array (history b n) .at v 0 d)
       (record {
         low = omega (arith, w .low);
         read = λ p. rw t (before-read b x k (w .read z) (λ o. p (t ∙ o)));

@@ -44,7 +44,7 @@ other-active p s v = ap (λ e. not (eqb s v) && e) (sym (active-code p v))
 
 module _ (x v : ℕ) where
   -- it has written the item, if and only if it wrote it last
-  pub open-writes : (p : History) → Passing p → ended p v ≡ false → any (writeOf v x) p ≡ byTx (lastWrite p x) v
+  open-writes : (p : History) → Passing p → ended p v ≡ false → any (writeOf v x) p ≡ byTx (lastWrite p x) v
   open-writes [] k e = refl
   open-writes (read t u y ∷ p) (step k l) e = open-writes p k e
   open-writes (write t u y b a ∷ p) (step k l) e =
@@ -79,7 +79,7 @@ module _ (x v : ℕ) where
   open-reads (other t u ∷ p) (step k l) g e = open-reads p k (g .0) e
 
   -- it has read or written the item
-  pub open-accesses : (p : History) → Passing p → ended p v ≡ false → any (accessOf v x) p ≡ byTx (lastWrite p x) v || any (ofTx v) (readsSince x p)
+  open-accesses : (p : History) → Passing p → ended p v ≡ false → any (accessOf v x) p ≡ byTx (lastWrite p x) v || any (ofTx v) (readsSince x p)
   open-accesses [] k e = refl
   open-accesses (read t u y ∷ p) (step k l) e =
       byCases (eqb x y)
@@ -220,7 +220,7 @@ abort-self u x p d h = let (v, q, g) = first-some (writeOf u x) p h in rw q (sam
     same (other t s) g = absurd (false≢true g)
 
 -- the amount of an item from its last write
-pub current-last : (d : Amount) (x : ℕ) (p : History) → Passing p → {w : Op} → lastWrite p x ≡ some w
+current-last : (d : Amount) (x : ℕ) (p : History) → Passing p → {w : Op} → lastWrite p x ≡ some w
     → current d p x ≡ cond (eqb (endCode p (txOf w)) 2) (beforeIn (first (writeOf (txOf w) x) p) (pos 0)) (afterOf w (pos 0))
 current-last d x [] k e = cc
 current-last d x (read t u y ∷ p) (step k l) e = current-last d x p k e

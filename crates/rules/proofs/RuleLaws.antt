@@ -22,6 +22,7 @@ use Rattle.journal.specs.Journal.{items, txIn, opOf, history}
 use Rattle.journal.specs.Refusals.{malformed, terminated, conflicting, blind, mismatched}
 use Rattle.journal.specs.Orders.{Refusal, accessOrder, ruleOrder, decide}
 use Rattle.journal.proofs.Records.{txOf-opOf}
+use Rattle.journal.proofs.Unrefused.{opOf-read, opOf-write}
 use Rattle.journal.proofs.OrdersLaws.{orElse-none, orElse-assoc, decide-try, decide-turn, decide-over}
 use Rattle.fields.proofs.Fields.{formed-range, formed-item-read, formed-item-write}
 use Rattle.rules.specs.declared.Touched.{Touched}
@@ -30,14 +31,14 @@ use Rattle.rules.specs.Arrays.{Ready, NoBlindTo, endsOf, writesOf}
 use Rattle.rules.specs.Answers.{writerOf, readersOf}
 use Rattle.rules.proofs.Recent.{ended-code, open-reads, other-writer, other-access}
 use Rattle.rules.proofs.Found.{passing-history, noBlind-history}
-use Rattle.rules.proofs.ArraysLaws.{ends-at, length-ends, op-read, op-write}
+use Rattle.rules.proofs.ArraysLaws.{ends-array}
 use Rattle.rules.proofs.ReadersLaws.{last-none, last-some}
 
 -- what is returned for number k at record i
 abbrev pub at : ℕ → ℕ → Option Refusal
 at k i = some (record { number = k; place = i })
 
-pub rule-parts : (p : History) (i : ℕ) (o : Op)
+rule-parts : (p : History) (i : ℕ) (o : Op)
     → decide (ruleOrder p i o) ≡ orElse (cond (terminated p o) (at 6 i) none) (orElse (cond (conflicting p o) (at 7 i) none) (orElse (cond (blind p o) (at 8 i) none) (cond (mismatched p o) (at 9 i) none)))
 unfolding ruleOrder accessOrder
 rule-parts p i o = simp (decide-turn, decide-over, decide-try, orElse-none, orElse-assoc)
@@ -52,11 +53,11 @@ module _ (b : List ℕ) (n : ℕ) (r : Record) (k : Ready b n) (f : malformed (i
   item-write e = let a = formed-item-write (items b) r f e in omega (arith, k .items)
 
   pub tx-in : (m : List ℕ) → m ≡ endsOf (history b n) → txIn r < length m
-  tx-in m e = let a = formed-range (items b) r f in rw (e, length-ends (history b n)) (omega arith)
+  tx-in m e = let a = formed-range (items b) r f in rw (e, ends-array (history b n) .size) (omega arith)
 
   module _ (m : List ℕ) (g : m ≡ endsOf (history b n)) where
     end-is : getD m (txIn r) 0 ≡ endCode (history b n) (txIn r)
-    end-is = let a = formed-range (items b) r f in rw (g, ends-at (history b n) (txIn r) (omega arith))
+    end-is = let a = formed-range (items b) r f in rw (g, ends-array (history b n) .at (txIn r) 0 (omega arith))
 
     terminated-is : terminated (history b n) (opOf (n + 1) r) ≡ not (eqb (getD m (txIn r) 0) 0)
     unfolding terminated
@@ -79,7 +80,7 @@ module _ (b : List ℕ) (n : ℕ) (r : Record) (k : Ready b n) (f : malformed (i
         read-rest : decide (ruleOrder (history b n) (n + 1) (opOf (n + 1) r)) ≡ cond (t .other) (at 7 (n + 1)) none
         unfolding conflicting blind mismatched writerOf
         read-rest =
-            rw (rest, op-read (n + 1) r e, other-writer (history b n) (passing-history b n (k .passed)) (txIn r) (r .item .0), w)
+            rw (rest, opOf-read (n + 1) r e, other-writer (history b n) (passing-history b n (k .passed)) (txIn r) (r .item .0), w)
             (orElse-none (cond (byOtherActive (history b n) (txIn r) (lastWrite (history b n) (r .item .0))) (at 7 (n + 1)) none))
 
         pub read-conflict : t .other ≡ true → at 7 (n + 1) ≡ decide (ruleOrder (history b n) (n + 1) (opOf (n + 1) r))
@@ -92,15 +93,15 @@ module _ (b : List ℕ) (n : ℕ) (r : Record) (k : Ready b n) (f : malformed (i
       module _ (e : r .kind ≡ 2) (t u : Touched) (w : t ≡ writerOf (history b n) (txIn r) (r .item .0)) (v : u ≡ readersOf (history b n) (txIn r) (r .item .0) t) where
         conflict-is : conflicting (history b n) (opOf (n + 1) r) ≡ u .other
         unfolding conflicting writerOf readersOf
-        conflict-is = rw (op-write (n + 1) r e, v, w) (other-access (history b n) (passing-history b n (k .passed)) (txIn r) (r .item .0))
+        conflict-is = rw (opOf-write (n + 1) r e, v, w) (other-access (history b n) (passing-history b n (k .passed)) (txIn r) (r .item .0))
 
         blind-is : NoBlindTo b n → blind (history b n) (opOf (n + 1) r) ≡ not (u .own)
         unfolding blind writerOf readersOf
-        blind-is g = rw (op-write (n + 1) r e, v, w) (ap not (open-reads (r .item .0) (txIn r) (history b n) (passing-history b n (k .passed)) (noBlind-history b n g) unended))
+        blind-is g = rw (opOf-write (n + 1) r e, v, w) (ap not (open-reads (r .item .0) (txIn r) (history b n) (passing-history b n (k .passed)) (noBlind-history b n g) unended))
 
         mismatched-is : mismatched (history b n) (opOf (n + 1) r) ≡ any (writeTo (r .item .0)) (history b n) && not (sameAmount (r .before) (standing (pos 0) (history b n) (r .item .0)))
         unfolding mismatched
-        mismatched-is = rw (op-write (n + 1) r e)
+        mismatched-is = rw (opOf-write (n + 1) r e)
 
         pub write-conflict : u .other ≡ true → at 7 (n + 1) ≡ decide (ruleOrder (history b n) (n + 1) (opOf (n + 1) r))
         write-conflict h = rw (rest, conflict-is, h)
@@ -150,7 +151,7 @@ module _ (b : List ℕ) (n x j : ℕ) (l : List ℕ) (k : Ready b n) (d : l ≡ 
       let s = last-some b n x j l k d e q y in any-latest (writeTo x) (writeTo x) (history b n) s (latest-passes (writeTo x) (history b n) s)
 
   -- a compared with the standing amount s
-  pub unlike-written : (s : Amount) (p : Bool) → (j ≡ 0 → ⊥) → s ≡ standing (pos 0) (history b n) x → p ≡ sameAmount a s → p ≡ not (unlikeStanding (history b n) x a)
+  unlike-written : (s : Amount) (p : Bool) → (j ≡ 0 → ⊥) → s ≡ standing (pos 0) (history b n) x → p ≡ sameAmount a s → p ≡ not (unlikeStanding (history b n) x a)
   unfolding unlikeStanding
   unlike-written s p y c f = f ∙ rw (written y, c) (sym (Bool·not-not (sameAmount a (standing (pos 0) (history b n) x))))
 

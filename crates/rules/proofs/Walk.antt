@@ -14,9 +14,9 @@ use Rattle.format.specs.declared.Record.{Record}
 use Rattle.format.specs.Layout.{recordAt}
 use Rattle.model.specs.History.{Op, History, Tag, read, write, commit, abort, other, txOf}
 use Rattle.journal.specs.Journal.{txIn, opOf, history}
+use Rattle.journal.proofs.Unrefused.{opOf-read}
 use Rattle.rules.specs.Recent.{readsSince, newest}
 use Rattle.rules.specs.Arrays.{readBefore}
-use Rattle.rules.proofs.ArraysLaws.{op-read}
 
 -- record k is a read of item x
 pub record ReadAt (b : List ℕ) (x k : ℕ) : Type 0 where
@@ -50,7 +50,7 @@ longer : {b : List ℕ} {x n k : ℕ} → readsSince x (history b (suc n)) ≡ r
 longer e (no-read z) = no-read (e ∙ z)
 longer e (read-at {k} h r z) = read-at {k = k} (omega arith) r (e ∙ z)
 
-pub newest-read : (b : List ℕ) (x n : ℕ) → Newest b x n (newest (readsSince x (history b n)))
+newest-read : (b : List ℕ) (x n : ℕ) → Newest b x n (newest (readsSince x (history b n)))
 unfolding history
 newest-read b x zero = no-read refl
 newest-read b x (suc n) =
@@ -58,7 +58,7 @@ newest-read b x (suc n) =
     let ih = newest-read b x n in
     byCases (eqb (r .kind) 1)
     (λ e. let k = eqb-true (r .kind) 1 e in
-    let o : opOf (suc n) r ≡ read (suc n) (txIn r) (r .item .0) = op-read (suc n) r k in
+    let o : opOf (suc n) r ≡ read (suc n) (txIn r) (r .item .0) = opOf-read (suc n) r k in
     byCases (eqb x (r .item .0))
     (λ q. let z : newest (readsSince x (history b (suc n))) ≡ suc n = rw (o, q) in
     rw z (read-at {k = n} (omega arith) (record { kind = k; item = sym (eqb-true x (r .item .0) q) }) refl))
@@ -101,7 +101,7 @@ pub among-step : (g : ℕ → Bool) (x : ℕ) (b : List ℕ) (k : ℕ) → (k �
 unfolding history readBefore
 among-step g x b zero h r = absurd (h refl)
 among-step g x b (suc k) h r =
-    let o : opOf (suc k) (recordAt b (suc k)) ≡ read (suc k) (txIn (recordAt b (suc k))) x = op-read (suc k) (recordAt b (suc k)) (r .kind) ∙ ap (read (suc k) (txIn (recordAt b (suc k)))) (r .item) in
+    let o : opOf (suc k) (recordAt b (suc k)) ≡ read (suc k) (txIn (recordAt b (suc k))) x = opOf-read (suc k) (recordAt b (suc k)) (r .kind) ∙ ap (read (suc k) (txIn (recordAt b (suc k)))) (r .item) in
     let z : among g x b (suc k) ≡ g (txIn (recordAt b (suc k))) || among g x b k = rw (o, eq-eqb x x refl) in
     z ∙ rw (r .item) (ap (λ a. g (txIn (recordAt b (suc k))) || a) (among-newest b x k g))
 

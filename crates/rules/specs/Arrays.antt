@@ -3,7 +3,7 @@
 use mathlib.Core.Path.{_≡_}
 use mathlib.Core.Bool.{false, cond}
 use mathlib.Core.List.{List}
-use Prim.Native.Nat.{ℕ, _+_, _*_, _≤_, _<_, suc, pred}
+use Prim.Native.Nat.{ℕ, _≤_, _<_, suc, pred}
 use lib.Dec.{eqb}
 use lib.ListN.{length, getD, set}
 use Rattle.lists.specs.Tables.{tabulate}

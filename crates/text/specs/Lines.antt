@@ -9,31 +9,31 @@ use Rattle.text.specs.Puts.{labelled}
 -- ---- the words, with the spaces beside them
 
 -- "JOURNAL "
-abbrev pub journalWord : List ℕ
+abbrev journalWord : List ℕ
 journalWord = 74 ∷ 79 ∷ 85 ∷ 82 ∷ 78 ∷ 65 ∷ 76 ∷ 32 ∷ []
 
 -- " COPY "
-abbrev pub copyWord : List ℕ
+abbrev copyWord : List ℕ
 copyWord = 32 ∷ 67 ∷ 79 ∷ 80 ∷ 89 ∷ 32 ∷ []
 
 -- "BACK "
-abbrev pub backWord : List ℕ
+abbrev backWord : List ℕ
 backWord = 66 ∷ 65 ∷ 67 ∷ 75 ∷ 32 ∷ []
 
 -- "ITEM "
-abbrev pub itemWord : List ℕ
+abbrev itemWord : List ℕ
 itemWord = 73 ∷ 84 ∷ 69 ∷ 77 ∷ 32 ∷ []
 
 -- "END "
-abbrev pub endWord : List ℕ
+abbrev endWord : List ℕ
 endWord = 69 ∷ 78 ∷ 68 ∷ 32 ∷ []
 
 -- "REFUSED "
-abbrev pub refusedWord : List ℕ
+abbrev refusedWord : List ℕ
 refusedWord = 82 ∷ 69 ∷ 70 ∷ 85 ∷ 83 ∷ 69 ∷ 68 ∷ 32 ∷ []
 
 -- " "
-abbrev pub space : List ℕ
+abbrev space : List ℕ
 space = 32 ∷ []
 
 -- "\n"

@@ -19,7 +19,7 @@ use Rattle.journal.proofs.Records.{txOf-opOf}
 use Rattle.rules.specs.Arrays.{Ready, endsOf}
 use Rattle.rules.proofs.Found.{passed-range, passing-history}
 use Rattle.rules.proofs.Recent.{code-committed, code-aborted}
-use Rattle.rules.proofs.ArraysLaws.{ends-at, length-ends}
+use Rattle.rules.proofs.ArraysLaws.{ends-array}
 use Rattle.trace.specs.Codes.{coded}
 
 -- ---- a journal whose records passed
@@ -46,13 +46,13 @@ module _ (b : List ℕ) (n : ℕ) (k : Ready b n) where
     unfolding coded
     coded-committed s =
         byCases (ltb s 1025)
-        (λ q. rw (e, ends-at (history b n) s (ltb-true s 1025 q)) (code-committed s (history b n) ends-last))
+        (λ q. rw (e, ends-array (history b n) .at s 0 (ltb-true s 1025 q)) (code-committed s (history b n) ends-last))
         (λ q. let l = ltb-false s 1025 q in
-        rw (e, List·getD-eq-default (endsOf (history b n)) 0 {n = s} (omega (arith, length-ends (history b n)))) (sym (none-committed s (λ u. omega arith))))
+        rw (e, List·getD-eq-default (endsOf (history b n)) 0 {n = s} (omega (arith, ends-array (history b n) .size))) (sym (none-committed s (λ u. omega arith))))
 
     pub coded-aborted : (s : ℕ) → s < 1025 → coded 2 ends s ≡ aborted (history b n) s
     unfolding coded
-    coded-aborted s h = rw (e, ends-at (history b n) s h) (code-aborted s (history b n) ends-last)
+    coded-aborted s h = rw (e, ends-array (history b n) .at s 0 h) (code-aborted s (history b n) ends-last)
 
     pub committed-coded : coded 1 ends ≡ committed (history b n)
     committed-coded = fun-ext coded-committed

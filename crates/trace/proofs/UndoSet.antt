@@ -13,7 +13,7 @@ use lib.ListN.{length, getD, List·getD-eq-default}
 use borrow.Author.Tests.{ne-eqb, ltb-true, ltb-false}
 use Rattle.lists.specs.Search.{latest, member}
 use Rattle.lists.proofs.BoolLaws.{byCases, clash}
-use Rattle.lists.proofs.TablesLaws.{tabulate-ext, length-tabulate}
+use Rattle.lists.proofs.TablesLaws.{tabulate-ext, length-tabulate, by-index}
 use Rattle.model.specs.History.{Op, History, Amount, Tag, read, write, commit, abort, other, txOf, committed}
 use Rattle.model.specs.Undo.{isSource, sourceBy, Upto, all, readsFrom, byMember, reached, undone, surviving}
 use Rattle.model.proofs.Ends.{tail-ends}
@@ -29,7 +29,6 @@ use Rattle.journal.specs.Results.{statusVector}
 use Rattle.journal.specs.Calls.{statusOf, statuses}
 use Rattle.rules.specs.Arrays.{Ready, endsOf}
 use Rattle.rules.proofs.Found.{passing-history}
-use Rattle.rules.proofs.ArraysLaws.{getD-of}
 use Rattle.trace.specs.Codes.{coded, flagsOf, fateOf, fatesOf}
 use Rattle.trace.specs.Trace.{writerIn, source, traced}
 use Rattle.trace.proofs.CodesLaws.{flag-member}
@@ -63,7 +62,7 @@ member-skip v s m false e = refl
 -- ---- the transactions reached
 
 module _ (o : ℕ → Amount) (j : History) (k : Legal o j) (z : committed j 0 ≡ false) (bad : List ℕ) where
-  pub traced-reached : (p : History) → Upto p j → (v : ℕ) → committed j v ≡ true → member v (traced (committed j) bad p) ≡ member v (reached isSource bad p)
+  traced-reached : (p : History) → Upto p j → (v : ℕ) → committed j v ≡ true → member v (traced (committed j) bad p) ≡ member v (reached isSource bad p)
   traced-reached [] i v h = refl
   traced-reached (read t s x ∷ p) i v h =
       let ih = traced-reached p (tail-ends i) in
@@ -113,7 +112,7 @@ status-length p bad fates f = ap length f ∙ length-tabulate _ 0 1025
 module _ (b : List ℕ) (n : ℕ) (k : Ready b n) (bad fates : List ℕ) (f : fates ≡ statuses bad (history b n)) where
   status-at : (s : ℕ) → s < 1025 → getD fates s 0 ≡ statusOf (undone isSource bad (history b n)) (surviving isSource bad (history b n)) s
   unfolding statuses statusVector
-  status-at s h = rw f (getD-of (statusOf (undone isSource bad (history b n)) (surviving isSource bad (history b n))) 1025 s 0 h)
+  status-at s h = rw f (by-index _ 1025 .at s 0 h)
 
   surviving-at : (s : ℕ) → coded 1 fates s ≡ surviving isSource bad (history b n) s
   unfolding coded statusOf

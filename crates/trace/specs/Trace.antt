@@ -9,9 +9,11 @@ use lib.Dec.{eqb}
 use lib.ListN.{getD, set}
 use Rattle.lists.specs.Search.{latest, member}
 use Rattle.lists.specs.Tables.{tabulate}
+use Rattle.format.specs.Layout.{recordAt}
 use Rattle.format.specs.Limits.{maxItems}
 use Rattle.model.specs.History.{Op, History, read, write, commit, abort, other, txOf}
 use Rattle.model.specs.Undo.{isSource, sourceBy}
+use Rattle.journal.specs.Journal.{opOf}
 use Rattle.trace.specs.Codes.{coded}
 
 -- the transaction of an operation that was looked for, 0 if there is none
@@ -61,12 +63,6 @@ sourcesAfter (commit t s) ends sources = sources
 sourcesAfter (abort t s) ends sources = sources
 sourcesAfter (other t s) ends sources = sources
 
--- ---- what the operations of p do, from the sources and the flags before them
-
-unfoldable pub sourcesFrom : List ℕ → History → List ℕ → List ℕ
-sourcesFrom ends [] sources = sources
-sourcesFrom ends (r ∷ p) sources = sourcesAfter r ends (sourcesFrom ends p sources)
-
-unfoldable pub flagsFrom : List ℕ → History → List ℕ → List ℕ → List ℕ
-flagsFrom ends [] sources flags = flags
-flagsFrom ends (r ∷ p) sources flags = flagsAfter r (sourcesFrom ends p sources) (flagsFrom ends p sources flags)
+-- what record i of a journal does to sources and flags
+unfoldable pub traceStep : List ℕ → List ℕ → ℕ → List ℕ × List ℕ → List ℕ × List ℕ
+traceStep b ends i s = let r : Op = opOf i (recordAt b i) in (sourcesAfter r ends (s .0), flagsAfter r (s .0) (s .1))

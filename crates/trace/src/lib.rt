@@ -1,14 +1,15 @@
 // The undo set: each transaction's fate, from one pass over a journal whose records passed.
 ghost use mathlib.Core.Path.{_≡_};
-ghost use Prim.Native.Nat.{_+_, _*_, _≤_, _<_};
+ghost use Prim.Native.Nat.{_+_, _≤_, _<_};
 ghost use lib.ListN.{length, getD, set};
+ghost use Rattle.lists.specs.Tables.{stepped};
 ghost use Rattle.format.specs.Layout.{recordAt};
 ghost use Rattle.format.specs.Limits.{journalBytes, maxRecords};
 ghost use Rattle.journal.specs.Journal.{opOf, history};
 ghost use Rattle.journal.specs.Calls.{statuses};
 ghost use Rattle.rules.specs.Arrays.{Ready, endsOf};
 ghost use Rattle.trace.specs.Codes.{coded, flagsOf, fateOf, fatesOf};
-ghost use Rattle.trace.specs.Trace.{traced, flagsRead, sourcesWrite, flagsAfter, sourcesAfter, sourcesFrom, flagsFrom};
+ghost use Rattle.trace.specs.Trace.{traced, flagsRead, sourcesWrite, flagsAfter, sourcesAfter, traceStep};
 use format::ITEM_SLOTS;
 use format::Key;
 use format::Lsn;
@@ -107,10 +108,8 @@ fn trace_record(journal: &[u8], n: u32, ends: &[u8], sources: &mut [u16], flags:
 // Records 1 to n in the trace, from any sources and any flags.
 pub fn trace_records(journal: &[u8], n: u32, ends: &[u8], sources: &mut [u16], flags: &mut [u8])
     requires { ⌜ (journalBytes n ≤ length (now journal)) × (n ≤ maxRecords) ⌝ }
-    ensures { λ _. ⌜ (now (sources .exit)
-        ≡ sourcesFrom (now (ends .entry)) (history (now (journal .entry)) n) (now (sources .entry)))
-        × (now (flags .exit)
-        ≡ flagsFrom (now (ends .entry)) (history (now (journal .entry)) n) (now (sources .entry)) (now (flags .entry))) ⌝ }
+    ensures { λ _. ⌜ (now (sources .exit), now (flags .exit))
+        ≡ stepped (traceStep (now (journal .entry)) (now (ends .entry))) n (now (sources .entry), now (flags .entry)) ⌝ }
 {
     let mut i = 0;
     while i < n {

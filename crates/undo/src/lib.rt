@@ -6,6 +6,7 @@ ghost use Rattle.journal.specs.Orders.{decide};
 ghost use Rattle.journal.specs.Calls as calls;
 ghost use Rattle.examine.specs.Stages.{admitOrder, examinedOrder, Examined};
 ghost use Rattle.deliver.specs.Answers.{answerOf};
+ghost use Rattle.undo.specs.Undoes.{Undoes};
 use deliver::Undone;
 use deliver::deliver;
 use examine::admit;
@@ -29,18 +30,8 @@ fn undo_admitted(
 ) -> Undone
     requires { ⌜ Examined (examinedOrder (inputsOf (now journal) (now table))) (now journal) n keys (now ends)
         × (decide (admitOrder (now ends) (now bad) (now status)) ≡ none) ⌝ }
-    ensures answer { λ r. ⌜ answerOf r
-        ≡ calls.undo (inputsOf (now (journal .entry)) (now (table .entry))) (now (bad .entry)) (now (status .entry))
-        (now (out .entry)) .answer ⌝ }
-    ensures table { λ r. ⌜ now (table .exit)
-        ≡ calls.undo (inputsOf (now (journal .entry)) (now (table .entry))) (now (bad .entry)) (now (status .entry))
-        (now (out .entry)) .table ⌝ }
-    ensures status { λ r. ⌜ now (status .exit)
-        ≡ calls.undo (inputsOf (now (journal .entry)) (now (table .entry))) (now (bad .entry)) (now (status .entry))
-        (now (out .entry)) .status ⌝ }
-    ensures out { λ r. ⌜ now (out .exit)
-        ≡ calls.undo (inputsOf (now (journal .entry)) (now (table .entry))) (now (bad .entry)) (now (status .entry))
-        (now (out .entry)) .out ⌝ }
+    ensures { λ r. ⌜ Undoes (inputsOf (now (journal .entry)) (now (table .entry))) (now (bad .entry)) (now (status .entry))
+        (now (out .entry)) (answerOf r) (now (table .exit)) (now (status .exit)) (now (out .exit)) ⌝ }
 {
     let fates = classify(journal, n, ends, bad);
     deliver(journal, n, keys, ends, &fates, table, status, out)
@@ -58,18 +49,8 @@ fn undo_examined(
     out: &mut [u8],
 ) -> Undone
     requires { ⌜ Examined (examinedOrder (inputsOf (now journal) (now table))) (now journal) n keys (now ends) ⌝ }
-    ensures answer { λ r. ⌜ answerOf r
-        ≡ calls.undo (inputsOf (now (journal .entry)) (now (table .entry))) (now (bad .entry)) (now (status .entry))
-        (now (out .entry)) .answer ⌝ }
-    ensures table { λ r. ⌜ now (table .exit)
-        ≡ calls.undo (inputsOf (now (journal .entry)) (now (table .entry))) (now (bad .entry)) (now (status .entry))
-        (now (out .entry)) .table ⌝ }
-    ensures status { λ r. ⌜ now (status .exit)
-        ≡ calls.undo (inputsOf (now (journal .entry)) (now (table .entry))) (now (bad .entry)) (now (status .entry))
-        (now (out .entry)) .status ⌝ }
-    ensures out { λ r. ⌜ now (out .exit)
-        ≡ calls.undo (inputsOf (now (journal .entry)) (now (table .entry))) (now (bad .entry)) (now (status .entry))
-        (now (out .entry)) .out ⌝ }
+    ensures { λ r. ⌜ Undoes (inputsOf (now (journal .entry)) (now (table .entry))) (now (bad .entry)) (now (status .entry))
+        (now (out .entry)) (answerOf r) (now (table .exit)) (now (status .exit)) (now (out .exit)) ⌝ }
 {
     let admitted = admit(ends, bad, status);
     let Verdict::Passed = admitted else {

@@ -12,13 +12,12 @@ use lib.ListN.{length, getD, set, replicate}
 use borrow.Author.Tests.{eqb-true, eqb-false, eq-eqb, ne-eqb, lt-ltb, le-ltb, le-leb, lt-leb}
 use Rattle.lists.specs.Search.{first, orElse}
 use Rattle.lists.proofs.BoolLaws.{byCases}
-use Rattle.lists.proofs.TablesLaws.{length-tabulate, tabulate-ext}
+use Rattle.lists.proofs.TablesLaws.{ByIndex, by-index, by-index-all, by-index-set, tabulate-ext}
 use Rattle.format.specs.Layout.{recordAt}
 use Rattle.model.specs.History.{Op, txOf, tagIn, laterOf, nextIn}
 use Rattle.journal.specs.Journal.{count, txIn, opOf, history, whole}
 use Rattle.journal.specs.Refusals.{wrongNext}
 use Rattle.journal.proofs.Records.{txOf-opOf, tagOf-opOf}
-use Rattle.rules.proofs.ArraysLaws.{getD-of, tabulate-set, tabulate-zeros}
 use Rattle.validate.specs.Chain.{nextsOf, broken, lowestBroken}
 
 -- nothing is later than the last record
@@ -56,18 +55,14 @@ first-later b (suc n) j s h =
     both false false f o q = refl
 
 module _ (b : List ℕ) where
+  nexts-array : (i : ℕ) → ByIndex (nextIn (whole b) i) 1025 (nextsOf b i)
+  unfolding nextsOf
+  nexts-array i = by-index _ 1025
+
   -- after the last record
-  pub nexts-last : replicate 1025 0 ≡ nextsOf b (count b)
-  unfolding nextsOf whole
-  nexts-last = tabulate-zeros (nextIn (whole b) (count b)) 1025 (λ s. ap tagIn (none-later b (count b) (count b) s (omega arith)))
-
-  pub length-nexts : (i : ℕ) → length (nextsOf b i) ≡ 1025
-  unfolding nextsOf
-  length-nexts i = length-tabulate _ 0 1025
-
-  pub nexts-at : (i s : ℕ) → s < 1025 → getD (nextsOf b i) s 0 ≡ nextIn (whole b) i s
-  unfolding nextsOf
-  nexts-at i s h = getD-of (nextIn (whole b) i) 1025 s 0 h
+  nexts-last : replicate 1025 0 ≡ nextsOf b (count b)
+  unfolding whole
+  nexts-last = by-index-all 0 0 (nexts-array (count b)) (λ s. ap tagIn (none-later b (count b) (count b) s (omega arith)))
 
   next-step : (j s : ℕ) → j < count b → nextIn (whole b) j s ≡ cond (eqb s (txIn (recordAt b (suc j)))) (suc j) (nextIn (whole b) (suc j) s)
   unfolding whole
@@ -75,13 +70,12 @@ module _ (b : List ℕ) where
       ap tagIn (first-later b (count b) j s h) ∙ byCases (eqb s (txIn (recordAt b (suc j)))) (λ e. rw (e, tagOf-opOf (suc j) (recordAt b (suc j)))) (λ e. rw e)
 
   -- one record back
-  pub nexts-set : (j : ℕ) → j < count b → txIn (recordAt b (suc j)) < 1025 → set (nextsOf b (suc j)) (txIn (recordAt b (suc j))) (suc j) ≡ nextsOf b j
-  unfolding nextsOf
-  nexts-set j h l =
+  nexts-set : (j : ℕ) → j < count b → set (nextsOf b (suc j)) (txIn (recordAt b (suc j))) (suc j) ≡ nextsOf b j
+  nexts-set j h =
       let s = txIn (recordAt b (suc j)) in
-      tabulate-set (nextIn (whole b) (suc j)) (nextIn (whole b) j) 1025 s (suc j) l (next-step j s h ∙ rw (eq-eqb s s refl)) (λ k q. next-step j k h ∙ rw q)
+      by-index-set s (suc j) 0 (nexts-array (suc j)) (nexts-array j) (next-step j s h ∙ rw (eq-eqb s s refl)) (λ k q. next-step j k h ∙ rw q)
 
-  pub nexts-same : (j : ℕ) → j < count b → 1025 ≤ txIn (recordAt b (suc j)) → nextsOf b (suc j) ≡ nextsOf b j
+  nexts-same : (j : ℕ) → j < count b → 1025 ≤ txIn (recordAt b (suc j)) → nextsOf b (suc j) ≡ nextsOf b j
   unfolding nextsOf
   nexts-same j h l =
       tabulate-ext (nextIn (whole b) (suc j)) (nextIn (whole b) j) 0 0 1025
@@ -89,11 +83,11 @@ module _ (b : List ℕ) where
 
   -- ---- the lowest record whose next is wrong
 
-  pub lowest-zero : (i : ℕ) → lowestBroken b i 0 ≡ 0
+  lowest-zero : (i : ℕ) → lowestBroken b i 0 ≡ 0
   unfolding lowestBroken
   lowest-zero i = refl
 
-  pub lowest-suc : (i n : ℕ) → lowestBroken b i (suc n) ≡ cond (broken b i) i (lowestBroken b (suc i) n)
+  lowest-suc : (i n : ℕ) → lowestBroken b i (suc n) ≡ cond (broken b i) i (lowestBroken b (suc i) n)
   unfolding lowestBroken
   lowest-suc i n = refl
 
@@ -140,15 +134,12 @@ module _ (b : List ℕ) (j s low : ℕ) (h : j < count b) (e : s ≡ txIn (recor
   pub back-above-slots : {l : List ℕ} → 1024 < s → l ≡ nextsOf b (j + 1) → l ≡ nextsOf b j
   back-above-slots a q = q ∙ (rw add-one (nexts-same b j h (rw (e, add-one) at a)))
 
-  pub back-slots : {l : List ℕ} → s ≤ 1024 → l ≡ nextsOf b (j + 1) → set l s (j + 1) ≡ nextsOf b j
-  back-slots a q =
-      let y : s < 1025 = omega arith in
-      let z : txIn (recordAt b (suc j)) < 1025 = rw (e, add-one) at y in
-      rw (q, e, add-one) (nexts-set b j h z)
+  pub back-slots : {l : List ℕ} → l ≡ nextsOf b (j + 1) → set l s (j + 1) ≡ nextsOf b j
+  back-slots q = rw (q, e, add-one) (nexts-set b j h)
 
   module _ (l : List ℕ) (n : ℕ) (a : s ≤ 1024) (q : l ≡ nextsOf b (j + 1)) (m : n ≡ recordAt b (j + 1) .next .0) where
     slot : getD l s 0 ≡ nextIn (whole b) (j + 1) (txIn (recordAt b (j + 1)))
-    slot = rw (q, nexts-at b (j + 1) s (omega arith), e)
+    slot = rw (q, nexts-array b (j + 1) .at s 0 (omega arith), e)
 
     pub back-right : n ≡ getD l s 0 → low ≡ cond (broken b (j + 1)) (j + 1) low
     unfolding broken wrongNext
@@ -161,7 +152,7 @@ module _ (b : List ℕ) (j s low : ℕ) (h : j < count b) (e : s ≡ txIn (recor
         rw (ne-eqb (recordAt b (j + 1) .next .0) _ (λ z. w (m ∙ z ∙ sym slot)), le-leb (txIn (recordAt b (j + 1))) 1024 (rw e at a))
 
 pub slot-in : (l : List ℕ) (s : ℕ) (b : List ℕ) (i : ℕ) → l ≡ nextsOf b i → s ≤ 1024 → s < length l
-slot-in l s b i e h = rw (e, length-nexts b i) (omega arith)
+slot-in l s b i e h = rw (e, nexts-array b i .size) (omega arith)
 
 -- ---- the loop
 
@@ -183,7 +174,7 @@ back-done b n i low e q =
     let f : i + 1 ≡ 1 = omega arith in let g : n - i ≡ n = omega arith in rw (f, g) at q
 
 pub slots-count : (l : List ℕ) (b : List ℕ) (i : ℕ) → l ≡ nextsOf b i → 1025 ≡ length l
-slots-count l b i e = rw (e, length-nexts b i)
+slots-count l b i e = rw (e, nexts-array b i .size)
 
 pub slots-same : (l b : List ℕ) (i : ℕ) → (i ≡ 0 → ⊥) → l ≡ nextsOf b i → l ≡ nextsOf b (i - 1 + 1)
 slots-same l b i h e = let f : i - 1 + 1 ≡ i = omega arith in rw f e

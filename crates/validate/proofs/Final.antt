@@ -18,7 +18,7 @@ use Rattle.lists.specs.Search.{any, first}
 use Rattle.lists.specs.Tables.{countIf}
 use Rattle.lists.proofs.BoolLaws.{byCases}
 use Rattle.lists.proofs.SearchLaws.{latest-none, any-latest, latest-passes, first-none, first-some}
-use Rattle.lists.proofs.TablesLaws.{number-zero, number-last, number-ext}
+use Rattle.lists.proofs.TablesLaws.{countIf-zero, countIf-last, countIf-ext}
 use Rattle.model.specs.History.{Op, Amount, sameAmount, writeTo, ofTx, tagIn, active, standing}
 use Rattle.journal.specs.Inputs.{inputsOf}
 use Rattle.journal.specs.Journal.{count, items, history, whole, amountAt}
@@ -29,7 +29,7 @@ use Rattle.rules.specs.Recent.{endCode}
 use Rattle.rules.specs.Arrays.{Ready, endsOf, firstsOf, writesOf}
 use Rattle.rules.proofs.Recent.{active-code}
 use Rattle.rules.proofs.Found.{first-found, found-none}
-use Rattle.rules.proofs.ArraysLaws.{ends-at, firsts-at}
+use Rattle.rules.proofs.ArraysLaws.{ends-array, firsts-array}
 use Rattle.rules.proofs.ReadersLaws.{last-none, last-some}
 use Rattle.rules.proofs.AmountLaws.{standing-any}
 use Rattle.validate.specs.Answers.{activeIn}
@@ -97,21 +97,21 @@ pub active-at : (b : List ℕ) (n : ℕ) (ends firsts : List ℕ) → ends ≡ e
     → activeIn ends firsts s ≡ active (history b n) s
 unfolding activeIn
 active-at b n ends firsts e f s h =
-    rw (e, f, ends-at (history b n) s h, firsts-at (history b n) s h)
+    rw (e, f, ends-array (history b n) .at s 0 h, firsts-array (history b n) .at s 0 h)
     (ap (λ a. a && eqb (endCode (history b n) s) 0) (sym (first-any (ofTx s) b n)) ∙ ap (λ a. any (ofTx s) (history b n) && a) (sym (active-code (history b n) s)))
 
 pub active-number : (b : List ℕ) (n m : ℕ) (ends firsts : List ℕ) → n ≡ count b → ends ≡ endsOf (history b n) → firsts ≡ firstsOf (history b n) → m ≡ countIf (activeIn ends firsts) 1 1024
     → m ≡ countIf (active (whole b)) 1 1024
 unfolding whole
 active-number b n m ends firsts c e f q =
-    q ∙ rw (← c) (number-ext (activeIn ends firsts) (active (history b n)) 1 1 1024 (λ k h. active-at b n ends firsts e f (1 + k) (omega arith)))
+    q ∙ rw (← c) (countIf-ext (activeIn ends firsts) (active (history b n)) 1 1 1024 (λ k h. active-at b n ends firsts e f (1 + k) (omega arith)))
 
 module _ (f : ℕ → Bool) (s k : ℕ) (h : 1 ≤ s) (q : k ≡ countIf f 1 (s - 1)) where
   one-more : countIf f 1 (s + 1 - 1) ≡ cond (f s) (suc k) k
   one-more =
       let e : s + 1 - 1 ≡ suc (s - 1) = omega arith in
       let g : 1 + (s - 1) ≡ s = omega arith in
-      rw (e, number-last f 1 (s - 1), g, q)
+      rw (e, countIf-last f 1 (s - 1), g, q)
 
   pub count-yes : (a : Bool) → a ≡ f s → a ≡ true → k + 1 ≡ countIf f 1 (s + 1 - 1)
   count-yes a e t = sym (one-more ∙ rw (← e, t, add-one))
@@ -120,7 +120,7 @@ module _ (f : ℕ → Bool) (s k : ℕ) (h : 1 ≤ s) (q : k ≡ countIf f 1 (s 
   count-no a e t = sym (one-more ∙ rw (← e, t))
 
 pub count-start : (f : ℕ → Bool) → 0 ≡ countIf f 1 (1 - 1)
-count-start f = sym (number-zero f 1)
+count-start f = sym (countIf-zero f 1)
 
 pub count-done : (f : ℕ → Bool) (s k : ℕ) → s ≤ 1025 → 1025 ≤ s → k ≡ countIf f 1 (s - 1) → k ≡ countIf f 1 1024
 count-done f s k h l q = let e : s - 1 ≡ 1024 = omega arith in rw e at q

@@ -2,14 +2,14 @@
 -- Assumes nothing.
 use mathlib.Core.Path.{_≡_, refl, sym, _∙_, ap}
 use mathlib.Core.Bool.{false}
-use mathlib.Core.List.{List}
+use mathlib.Core.List.{List, []}
 use mathlib.Core.Option.{none, Option·none-ne-some}
 use Prim.Native.Nat.{ℕ, suc, _+_, _-_, _<_, _≤_}
 use native.Mathlib.Omega.{arith}
 use native.Mathlib.Numerals.{add-one}
 use lib.ListN.{length, replicate, length-replicate}
 use Rattle.lists.specs.Tables.{each}
-use Rattle.lists.proofs.TablesLaws.{each-zero}
+use Rattle.lists.proofs.TablesLaws.{by-index-all, each-zero}
 use Rattle.format.specs.declared.Record.{Record}
 use Rattle.format.specs.Layout.{recordAt}
 use Rattle.journal.specs.Journal.{count, items, history}
@@ -25,17 +25,24 @@ use Rattle.rules.specs.declared.Verdict.the-variants.{Passed, Refused}
 use Rattle.rules.specs.Answers.{refusalOf, verdictOf}
 use Rattle.rules.specs.Arrays.{Ready, NoBlindTo, Linked, State}
 use Rattle.rules.proofs.Found.{core-right}
-use Rattle.rules.proofs.ArraysLaws.{ends-start, firsts-start, writes-start, bases-start, reads-start, length-ends, length-firsts, length-writes, length-bases, length-reads}
+use Rattle.rules.proofs.ArraysLaws.{ends-array, firsts-array, writes-array, bases-array, reads-array}
 
 -- ---- where it begins
 
-pub linked-start : (b : List ℕ) → Linked b 0 (replicate 3201 0)
+linked-start : (b : List ℕ) → Linked b 0 (replicate 3201 0)
 linked-start b = record { size = length-replicate {A = ℕ} 3201 0; link = λ k a c e. absurd (omega arith) }
 
 pub state-start : (b : List ℕ) → State b 0 (replicate 1025 0) (replicate 1025 0) (replicate 1024 0) (replicate 1024 0) (replicate 1024 0) (replicate 3201 0)
 unfolding history
 state-start b =
-    record { ended = ends-start; begun = firsts-start; written = writes-start; based = bases-start; lastRead = reads-start; linked = linked-start b }
+    record {
+      ended = by-index-all 0 0 (ends-array []) (λ j. refl);
+      begun = by-index-all 0 0 (firsts-array []) (λ j. refl);
+      written = by-index-all 0 0 (writes-array []) (λ j. refl);
+      based = by-index-all 0 0 (bases-array []) (λ j. refl);
+      lastRead = by-index-all 0 0 (reads-array []) (λ j. refl);
+      linked = linked-start b;
+    }
 
 pub none-passed : (b : List ℕ) → decide (each (recordOrder b) 1 0) ≡ none
 unfolding decide
@@ -110,11 +117,11 @@ pub same-lengths : {b ends firsts writes bases reads links ends' firsts' writes'
     → State b i ends' firsts' writes' bases' reads' links' → Lengths ends firsts writes bases reads links ends' firsts' writes' bases' reads' links'
 same-lengths {b = b} {i = i} s t =
     record {
-      ends = rw (s .ended, t .ended, length-ends (history b i), length-ends (history b 0));
-      firsts = rw (s .begun, t .begun, length-firsts (history b i), length-firsts (history b 0));
-      writes = rw (s .written, t .written, length-writes (history b i), length-writes (history b 0));
-      bases = rw (s .based, t .based, length-bases (history b i), length-bases (history b 0));
-      reads = rw (s .lastRead, t .lastRead, length-reads (history b i), length-reads (history b 0));
+      ends = rw (s .ended, t .ended, ends-array (history b i) .size, ends-array (history b 0) .size);
+      firsts = rw (s .begun, t .begun, firsts-array (history b i) .size, firsts-array (history b 0) .size);
+      writes = rw (s .written, t .written, writes-array (history b i) .size, writes-array (history b 0) .size);
+      bases = rw (s .based, t .based, bases-array (history b i) .size, bases-array (history b 0) .size);
+      reads = rw (s .lastRead, t .lastRead, reads-array (history b i) .size, reads-array (history b 0) .size);
       links = t .linked .size ∙ sym (s .linked .size);
     }
 

@@ -4,7 +4,7 @@ use mathlib.Core.Path.{_≡_, refl, sym, _∙_, ap}
 use mathlib.Core.Bool.{cond, not}
 use mathlib.Core.List.{List, [], _∷_}
 use mathlib.Core.Option.{none, some, Option·none-ne-some}
-use Prim.Native.Nat.{ℕ, _-_}
+use Prim.Native.Nat.{ℕ}
 use native.Mathlib.Omega.{arith}
 use lib.Dec.{eqb}
 use lib.ListN.{length}
@@ -18,7 +18,7 @@ use Rattle.journal.specs.declared.Reason.the-variants as reason
 use Rattle.journal.specs.Reasons.{numberOf, placeOf}
 use Rattle.journal.specs.Journal.{count, items}
 use Rattle.journal.specs.Refusals.{wrongTable}
-use Rattle.journal.specs.Orders.{Refusal, decide, openOrder, tableOrder, recordsOrder, settledOrder, checkOrder}
+use Rattle.journal.specs.Orders.{decide, openOrder, tableOrder, recordsOrder, settledOrder, checkOrder}
 use Rattle.journal.specs.Calls.{refused, accepted, answered, check}
 use Rattle.journal.proofs.Checked.{Sound, open-clear, records-clear, clear-checks}
 use Rattle.journal.proofs.Clear.{clear-decide, decide-clear}
@@ -56,7 +56,7 @@ module _ (b : List ℕ) (h : Headed) (q : headerOf h ≡ answered (decide (openO
 -- ---- the table's length
 
 module _ (b : List ℕ) (n m : ℕ) (t : List Amount) (h : Headed) (q : headerOf h ≡ answered (decide (openOrder b)) (sizeOf b)) (e : h ≡ headed.Size n m) where
-  pub table-parts : decide (checkOrder (inputsOf b t)) ≡ orElse (cond (not (eqb (length t) m)) (some (record { number = 3; place = 0 })) none) (decide (laterOrder (inputsOf b t)))
+  table-parts : decide (checkOrder (inputsOf b t)) ≡ orElse (cond (not (eqb (length t) m)) (some (record { number = 3; place = 0 })) none) (decide (laterOrder (inputsOf b t)))
   unfolding checkOrder tableOrder wrongTable laterOrder
   table-parts =
       decide-turn-none (openOrder b) _ (header-parts b h q n m e .0)
@@ -120,9 +120,9 @@ verify-state b n m o ends firsts writes bases reads links s = rw (o .counted) at
 
 module _ (b : List ℕ) (t : List Amount) (e : decide (checkOrder (inputsOf b t)) ≡ none) where
   sound : Sound b
-  sound = clear-checks b t (decide-clear (checkOrder (inputsOf b t)) e) .sound
+  sound = clear-checks (inputsOf b t) (decide-clear (checkOrder (inputsOf b t)) e) .sound
 
-  pub checked-opened : Opened b (count b) (items b)
+  checked-opened : Opened b (count b) (items b)
   checked-opened = head-opened b (clear-decide (open-clear b (sound .long) (sound .head) (sound .full)))
 
   pub checked-ready : Ready b (count b)

@@ -2,7 +2,7 @@
 ghost use mathlib.Core.Path.{_≡_};
 ghost use mathlib.Core.Bool.{cond, not};
 ghost use mathlib.Core.Option.{none};
-ghost use Prim.Native.Nat.{_+_, _*_, _≤_, _<_};
+ghost use Prim.Native.Nat.{_+_, _≤_, _<_};
 ghost use lib.ListN.{length};
 ghost use Rattle.lists.specs.Tables.{countIf};
 ghost use Rattle.format.specs.Layout.{recordAt};
@@ -177,7 +177,7 @@ fn settled(
 }
 
 // Rule 10, lowest item first, in a journal whose n records passed.
-pub fn final_state(
+fn final_state(
     journal: &[u8],
     n: u32,
     table: &[i32],

@@ -43,12 +43,12 @@ pub answers : AppendState → List AppendCall → List (Answer (Unit {0}))
 answers d [] = []
 answers d (p ∷ ps) = appendOn d p .answer ∷ answers (appendStateAfter d p) ps
 
-pub calls-answers : answers (startedState buffer 3 opens) calls ≡ accepted tt ∷ refused 8 2 ∷ accepted tt ∷ accepted tt ∷ []
+pub calls-answers : answers (startedState (inputsOf buffer opens) 3) calls ≡ accepted tt ∷ refused 8 2 ∷ accepted tt ∷ accepted tt ∷ []
 unfolding computed runAppends buffer opens calls answers
 calls-answers = refl
 
 -- the head, three records, record 2 as the document prints it, and the paper behind
-pub calls-journal : runAppends (startedState buffer 3 opens) calls .inputs .journal
+pub calls-journal : runAppends (startedState (inputsOf buffer opens) 3) calls .inputs .journal
     ≡ (0 ∷ 0 ∷ 0 ∷ 0 ∷ 3 ∷ 0 ∷ 0 ∷ 0 ∷ 3 ∷ 0 ∷ 0 ∷ 0 ∷ 0 ∷ 0 ∷ 0 ∷ 0 ∷ 0 ∷ 0 ∷ 0 ∷ 0 ∷ [])
     ++ (1 ∷ 0 ∷ 1 ∷ 0 ∷ 2 ∷ 0 ∷ 0 ∷ 0 ∷ 0 ∷ 0 ∷ 0 ∷ 0 ∷ 0 ∷ 0 ∷ 0 ∷ 0 ∷ 0 ∷ 0 ∷ 0 ∷ 0 ∷ [])
     ++ (0x02 ∷ 0x00 ∷ 0x01 ∷ 0x00 ∷ 0x03 ∷ 0x00 ∷ 0x00 ∷ 0x00 ∷ 0x00 ∷ 0x00 ∷ 0x00 ∷ 0x00 ∷ 0xf4 ∷ 0x01 ∷ 0x00 ∷ 0x00 ∷ 0x40 ∷ 0x01 ∷ 0x00 ∷ 0x00 ∷ [])
@@ -57,7 +57,7 @@ pub calls-journal : runAppends (startedState buffer 3 opens) calls .inputs .jour
 unfolding computed runAppends buffer opens calls
 calls-journal = refl
 
-pub calls-table : runAppends (startedState buffer 3 opens) calls .inputs .table ≡ pos 320 ∷ pos 0 ∷ pos 1000 ∷ []
+pub calls-table : runAppends (startedState (inputsOf buffer opens) 3) calls .inputs .table ≡ pos 320 ∷ pos 0 ∷ pos 1000 ∷ []
 unfolding computed runAppends buffer opens calls
 calls-table = refl
 
@@ -65,10 +65,10 @@ calls-table = refl
 givenSmall : (k s x n : ℕ) → k < 256 → s < 65536 → x < 4294967296 → n < 2147483648 → Given (record { kind = k; tx = s; item = x; after = pos n })
 givenSmall k s x n a b c d = record { kind = a; tx = b; item = c; after = small n d }
 
-pub calls-built : Built [] opens (startedState buffer 3 opens) calls (runAppends (startedState buffer 3 opens) calls)
+pub calls-built : Built [] opens (startedState (inputsOf buffer opens) 3) calls (runAppends (startedState (inputsOf buffer opens) 3) calls)
 unfolding computed runAppends buffer opens calls
 calls-built =
-    appended-reads buffer 3 opens calls (below-bytes buffer refl) refl refl
+    appended-reads (inputsOf buffer opens) 3 calls (below-bytes buffer refl) refl refl
     (amount (small 500 (omega arith)) (amount (small 0 (omega arith)) (amount (small 1000 (omega arith)) none)))
     (given (givenSmall 1 1 0 0 (omega arith) (omega arith) (omega arith) (omega arith))
     (given (givenSmall 2 2 1 5 (omega arith) (omega arith) (omega arith) (omega arith))
@@ -81,17 +81,19 @@ calls-built =
 pub goesOn : List ℕ
 goesOn = copyOf3 ++ replicate 20 7
 
-abbrev left : AppendState
-left = repairedState (undo (inputsOf example exampleTable) (1 ∷ []) (replicate 1025 7) (replicate 85 99)) (record { surviving = 1; undone = 2; aborted = 0; bytes = 80 }) goesOn
+abbrev exampleRepaired : AppendState
+exampleRepaired =
+    repairedState (inputsOf example exampleTable) (undo (inputsOf example exampleTable) (1 ∷ []) (replicate 1025 7) (replicate 85 99))
+    (record { surviving = 1; undone = 2; aborted = 0; bytes = 80 }) goesOn
 
 abbrev later : List AppendCall
 later = record { kind = 1; tx = 4; item = 2; after = pos 0 } ∷ []
 
-pub left-accepts : appendOn left (record { kind = 1; tx = 4; item = 2; after = pos 0 }) .answer ≡ accepted tt
+pub left-accepts : appendOn exampleRepaired (record { kind = 1; tx = 4; item = 2; after = pos 0 }) .answer ≡ accepted tt
 unfolding computed example exampleTable goesOn
 left-accepts = refl
 
-pub left-built : Built (recordsOf copyOf3) (openingTable (inputsOf example exampleTable)) left later (runAppends left later)
+pub left-built : Built (recordsOf copyOf3) (openingTable (inputsOf example exampleTable)) exampleRepaired later (runAppends exampleRepaired later)
 unfolding computed example exampleTable goesOn
 left-built =
     appended-after (inputsOf example exampleTable) (1 ∷ []) (replicate 1025 7) (replicate 85 99) _ example-accepted

@@ -4,7 +4,8 @@ use mathlib.Core.Path.{refl}
 use mathlib.Core.List.{flatten}
 use Rattle.format.specs.Bytes.{entry, entries}
 use Rattle.text.specs.Decimal.{digits, decimal, decimalZ}
-use Rattle.report.specs.Output.{undoneIn, changeIn, lines, linesOf, amounts, transactions, undoFiles, reportOf}
+use Rattle.lines.specs.AnswerLines.{undoneIn, changeIn, lines}
+use Rattle.report.specs.Output.{linesOf, amounts, transactions, undoFiles, reportOf}
 use Rattle.worked.specs.Reports.{Example, PartialEntry, Refusals, Wide, Decimals}
 use Rattle.days.proofs.Computed as calls
 

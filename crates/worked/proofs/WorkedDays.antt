@@ -93,7 +93,7 @@ pub accepted-80 : accepts (undo (inputsOf example exampleTable) (1 ∷ []) statu
 unfolding computed example exampleTable
 accepted-80 =
     acceptance (inputsOf example exampleTable) (1 ∷ []) statusBuffer (blank 80) example-day .1
-    (record { names = λ s m. or-cases (eqb s 1) false m (λ q. rw (eqb-true s 1 q)) (λ q. absurd (false≢true q)); statuses = refl; holds = omega arith })
+    (record { names = λ s m. or-cases (eqb s 1) false m (λ q. rw (eqb-true s 1 q)) (λ q. absurd (false≢true q)); statusLength = refl; capacity = omega arith })
 
 -- not with 79 bytes, 1,024 marks or sale 4, which has no record
 pub refused-79 : Accepting example (1 ∷ []) statusBuffer (blank 79) → ⊥
@@ -307,7 +307,7 @@ sequence-one = sequence-incremental .one lastDone (firstDone ∷ []) refl (1 ∷
 -- sales 1 and 2 are each marked 2 by just one of the two calls, sale 3 by none
 pub sequence-statuses : (timesUndone 1 (ending .calls) ≡ 1) × (timesUndone 2 (ending .calls) ≡ 1) × (timesUndone 3 (ending .calls) ≡ 0)
 unfolding computed example exampleTable
-sequence-statuses = (sequence-one .1 .statuses 1, sequence-one .1 .statuses 2, sequence-one .1 .statuses 3)
+sequence-statuses = (sequence-one .1 .undoneOnce 1, sequence-one .1 .undoneOnce 2, sequence-one .1 .undoneOnce 3)
 
 -- the one call's table and copy
 pub sequence-table : ending .inputs .table ≡ undo (inputsOf example exampleTable) (1 ∷ 2 ∷ []) statusBuffer (blank 80) .table
@@ -359,14 +359,14 @@ second-counts =
 -- no call, and one that is refused
 pub no-call : runUndos (initialState (inputsOf example exampleTable)) [] .inputs ≡ inputsOf example exampleTable
 unfolding runUndos
-no-call = incremental-undo (inputsOf example exampleTable) [] example-day .unchanged refl
+no-call = incremental-undo (inputsOf example exampleTable) [] example-day .noneAccepted refl
 
 abbrev refusedCall : List UndoCall
 refusedCall = record { bad = 4 ∷ []; status = statusBuffer; out = blank 240 } ∷ []
 
 pub only-refused : runUndos (initialState (inputsOf example exampleTable)) refusedCall .inputs ≡ inputsOf example exampleTable
 unfolding computed example exampleTable remaining runUndos
-only-refused = incremental-undo (inputsOf example exampleTable) refusedCall example-day .unchanged refl
+only-refused = incremental-undo (inputsOf example exampleTable) refusedCall example-day .noneAccepted refl
 
 -- ---- refused calls
 
@@ -542,7 +542,7 @@ other = example ++ replicate 30 1
 
 pub two-agree : Agree exampleWithRoom other
 unfolding computed example
-two-agree = record { left = omega arith; right = omega arith; same = refl }
+two-agree = record { firstLong = omega arith; secondLong = omega arith; same = refl }
 
 pub same-check : check (inputsOf exampleWithRoom exampleTable) ≡ check (inputsOf other exampleTable)
 same-check = behind .check (inputsOf exampleWithRoom exampleTable) other two-agree

@@ -5,7 +5,7 @@ use std::collections::{BTreeMap, BTreeSet};
 use std::fmt::Write;
 
 /// What a crate holds, in a few words; one that is not here is drawn by its name alone.
-const HOLDS: [(&str, &str); 30] = [
+const HOLDS: [(&str, &str); 34] = [
     ("lists", "any list"),
     ("model", "transactions, no bytes"),
     ("example", "the example day"),
@@ -19,6 +19,8 @@ const HOLDS: [(&str, &str); 30] = [
     ("rules", "rules 6 to 9"),
     ("validate", "check"),
     ("chain", "slip"),
+    ("entry", "15 and the new record"),
+    ("extend", "one record more, written"),
     ("append", "post"),
     ("trace", "which sales go"),
     ("repair", "copy, table left, marks"),
@@ -26,14 +28,16 @@ const HOLDS: [(&str, &str); 30] = [
     ("deliver", "14, then what is lent"),
     ("undo", "take-back"),
     ("certified", "calls with their demands"),
-    ("text", "the report's lines"),
+    ("text", "decimals, single lines"),
+    ("lines", "the report's lines"),
     ("report", "the report"),
     ("worked", "worked statements"),
     ("files", "a folder's files"),
     ("takeback", "the program"),
     ("day_folders", "many folders of days"),
     ("c_answers", "an answer for C"),
-    ("c_post", "all but take-back, for C"),
+    ("c_append", "post, for C"),
+    ("c_calls", "the other calls, for C"),
     ("c_undo", "take-back, for C"),
     ("capi", "the C interface"),
 ];

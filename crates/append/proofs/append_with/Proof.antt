@@ -24,10 +24,6 @@ prepare-requires c κs =
     let r : tie.After-new-record = search in
     from-table (now (entry r .args .table)) _ _ _ _ (r .new-record .result) (made r)
 
-returns : tie.Need-returns
-returns c =
-    refused-not-enter _ _ (c .enum-told .given .1)
-
 returns-2 : tie.Need-returns-2
 returns-2 c =
     let w : tie.After-planned3 = search in
@@ -56,8 +52,6 @@ pub append-with-spec : {M : Type 1} → statement M
 append-with-spec =
     tie.close
     (tie.spec
-    (λ c κs. search needs) prepare-requires
-    (λ c. search needs) (λ c. search needs) (λ c. search needs) (λ c. search needs) (λ c. search needs) (λ c. search needs) returns
-    (λ c. search needs) (λ c. search needs) returns-2
-    enter-requires
-    (λ c. search needs) (λ c. search needs) returns-3)
+    (λ c κs. search needs) prepare-requires (λ c. search needs) (λ c. search needs) (λ c. search needs) (λ c. search needs)
+    (λ c. search needs) (λ c. search needs) (λ c. refused-not-enter _ _ (c .enum-told .given .1)) (λ c. search needs)
+    (λ c. search needs) returns-2 enter-requires (λ c. search needs) (λ c. search needs) returns-3)

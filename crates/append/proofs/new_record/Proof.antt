@@ -5,9 +5,5 @@ use borrow.Author.Needs.{needs}
 use Rattle.append.proofs.new_record.Statement.{statement}
 use Rattle.append.proofs.new_record.Tie as tie
 
-returns : tie.Need-returns
-returns c =
-    search (new-is, needs)
-
 pub new-record-spec : {M : Type 1} → statement M
-new-record-spec = tie.close (tie.spec (λ c κs. search needs) returns)
+new-record-spec = tie.close (tie.spec (λ c κs. search needs) (λ c. search (new-is, needs)))

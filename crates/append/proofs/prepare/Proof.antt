@@ -4,14 +4,10 @@ use mathlib.Core.Path.{_∙_}
 use denote.Ref.{now}
 use Rattle.validate.proofs.Pass.{state-start}
 use Rattle.counts.specs.Answers.{recordCountsOf}
-use Rattle.append.proofs.Judging.{plan-refused, plan-counted, plan-keys, plan-ready, plan-noBlind, plan-arrays, plan-matched, plan-entry}
+use Rattle.append.proofs.Planning.{plan-refused, plan-counted, plan-keys, plan-ready, plan-noBlind, plan-arrays, plan-matched, plan-entry}
 use borrow.Author.Needs.{needs}
 use Rattle.append.proofs.prepare.Statement.{statement}
 use Rattle.append.proofs.prepare.Tie as tie
-
-verify-requires : tie.Need-verify-requires
-verify-requires c κs =
-    search state-start
 
 returns-2 : tie.Need-returns-2
 returns-2 c =
@@ -45,6 +41,7 @@ pub prepare-spec : {M : Type 1} → statement M
 prepare-spec =
     tie.close
     (tie.spec
-    (λ c. search needs) (λ c. search needs) (λ c. search needs) (λ c. search needs) (λ c. search needs) (λ c. search needs) verify-requires
-    (λ c. search needs) (λ c. search needs) (λ c. search needs) (λ c. search needs) (λ c. search needs) returns-2
-    (λ c. search needs) (λ c. search needs) (λ c. search needs) (λ c. search needs) judge-entry-requires returns-3)
+    (λ c. search needs) (λ c. search needs) (λ c. search needs) (λ c. search needs) (λ c. search needs) (λ c. search needs)
+    (λ c κs. search state-start) (λ c. search needs) (λ c. search needs) (λ c. search needs) (λ c. search needs)
+    (λ c. search needs) returns-2 (λ c. search needs) (λ c. search needs) (λ c. search needs) (λ c. search needs)
+    judge-entry-requires returns-3)

@@ -1,15 +1,17 @@
 -- `c_undo::undo` meets its contract: what it returns and writes is take-back's own answer, case by case.
 -- Assumes nothing.
-use mathlib.Core.Path.{_∙_, refl}
+use mathlib.Core.Path.{_∙_, ap, refl}
 use denote.Ref.{now}
 use borrow.Author.Needs.{needs}
 use Rattle.journal.specs.Inputs.{inputsOf}
-use Rattle.c_undo.proofs.UndoLaws.{undo-leaves, never-done}
+use Rattle.deliver.specs.Answers.{answerOf}
+use Rattle.c_answers.proofs.Reading.{never-accepted}
+use Rattle.c_undo.proofs.UndoLaws.{undo-leaves}
 use Rattle.c_undo.proofs.undo.Statement.{statement}
 use Rattle.c_undo.proofs.undo.Tie as tie
 
 returns : tie.Need-returns
-returns c = let told : tie.After-enum-told = search in never-done _ _ (told .enum-told .given .1)
+returns c = let told : tie.After-enum-told = search in never-accepted (ap answerOf (told .enum-told .given .1))
 
 returns-2 : tie.Need-returns-2
 returns-2 c =
@@ -34,22 +36,6 @@ pub undo-spec : {M : Type 1} → statement M
 undo-spec =
     tie.close
     (tie.spec
-    (search needs)
-    (search needs)
-    (search needs)
-    (search needs)
-    (search needs)
-    (search needs)
-    (search needs)
-    (search needs)
-    (search needs)
-    returns
-    (search needs)
-    (search needs)
-    (search needs)
-    (search needs)
-    returns-2
-    (search needs)
-    (search needs)
-    (search needs)
-    returns-3)
+    (search needs) (search needs) (search needs) (search needs) (search needs) (search needs) (search needs) (search needs)
+    (search needs) returns (search needs) (search needs) (search needs) (search needs) returns-2 (search needs)
+    (search needs) (search needs) returns-3)

@@ -1,4 +1,4 @@
--- `capi::journal_append` meets its contract: that of `c_post::append`, with the signed amount as it was given.
+-- `capi::journal_append` meets its contract: that of `c_append::append`, with the signed amount as it was given.
 -- Assumes nothing.
 use mir.Syntax.{w32}
 use mir.ValLaws.{toZ-ofZ}

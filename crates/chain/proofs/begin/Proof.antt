@@ -16,17 +16,9 @@ returns-2 c =
     let a : tie.Start = search in
     begin-refused (now (a .args .journal)) (a .args .s .0) (h .header .result) (h .header .ensures) _ (p .head2 .given .1 ∙ q .head3 .given .1)
 
-begin-opened-requires : tie.Need-begin-opened-requires
-begin-opened-requires c κs =
-    search header-opened
-
-returns-3 : tie.Need-returns-3
-returns-3 c =
-    search begin-right
-
 pub begin-spec : {M : Type 1} → statement M
 begin-spec =
     tie.close
     (tie.spec
-    (λ c κs. search needs) (λ c. search needs) (λ c. search needs) (λ c. search needs) (λ c. search needs) (λ c. search needs) returns-2
-    begin-opened-requires returns-3)
+    (λ c κs. search needs) (λ c. search needs) (λ c. search needs) (λ c. search needs) (λ c. search needs) (λ c. search needs)
+    returns-2 (λ c κs. search header-opened) (λ c. search begin-right))

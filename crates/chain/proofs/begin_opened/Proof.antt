@@ -8,10 +8,6 @@ use borrow.Author.Needs.{needs}
 use Rattle.chain.proofs.begin_opened.Statement.{statement}
 use Rattle.chain.proofs.begin_opened.Tie as tie
 
-records-requires : tie.Need-records-requires
-records-requires c κs =
-    (search, search state-start)
-
 returns-2 : tie.Need-returns-2
 returns-2 c =
     let q : tie.After-passed2 = search in
@@ -33,6 +29,6 @@ pub begin-opened-spec : {M : Type 1} → statement M
 begin-opened-spec =
     tie.close
     (tie.spec
-    (λ c. search needs) (λ c. search needs) (λ c. search needs) (λ c. search needs) (λ c. search needs) (λ c. search needs) records-requires
-    (λ c. search needs) (λ c. search needs) (λ c. search needs) (λ c. search needs) (λ c. search needs) returns-2
-    (λ c. search needs) (λ c κs. search needs) returns-3)
+    (λ c. search needs) (λ c. search needs) (λ c. search needs) (λ c. search needs) (λ c. search needs) (λ c. search needs)
+    (λ c κs. (search, search state-start)) (λ c. search needs) (λ c. search needs) (λ c. search needs) (λ c. search needs)
+    (λ c. search needs) returns-2 (λ c. search needs) (λ c κs. search needs) returns-3)

@@ -16,10 +16,6 @@ returns-2 c =
     let h = b .begin in
     chain-refused (now (a .args .journal)) (a .args .transaction .0) (now (a .args .lsns)) (h .result) (h .ensures) _ (p .begun2 .given .1 ∙ q .begun3 .given .1)
 
-visited-requires : tie.Need-visited-requires
-visited-requires c κs =
-    (search chain-ready, search chain-low)
-
 returns-3 : tie.Need-returns-3
 returns-3 c =
     let v : tie.After-visited = search in
@@ -28,10 +24,6 @@ returns-3 c =
     let a : tie.Start = search in
     let h = b .begin in
     chain-short (now (a .args .journal)) (a .args .transaction .0) (now (a .args .lsns)) (h .result) (h .ensures) _ (p .begun .given .1) _ (v .visited .ensures .0) (c .if1 .taken)
-
-follow-requires : tie.Need-follow-requires
-follow-requires c κs =
-    (search chain-ready, search chain-low, search needs)
 
 returns-4 : tie.Need-returns-4
 returns-4 c =
@@ -48,6 +40,6 @@ pub chain-spec : {M : Type 1} → statement M
 chain-spec =
     tie.close
     (tie.spec
-    (λ c κs. search needs) (λ c. search needs) (λ c. search needs) (λ c. search needs) (λ c. search needs) (λ c. search needs) returns-2
-    visited-requires returns-3 follow-requires
-    (λ c. search needs) (λ c. search needs) returns-4)
+    (λ c κs. search needs) (λ c. search needs) (λ c. search needs) (λ c. search needs) (λ c. search needs) (λ c. search needs)
+    returns-2 (λ c κs. (search chain-ready, search chain-low)) returns-3
+    (λ c κs. (search chain-ready, search chain-low, search needs)) (λ c. search needs) (λ c. search needs) returns-4)

@@ -16,33 +16,10 @@ Inv-loop journal lsns₀ k₀ i₀ lsns k i = Walking journal (i₀ .0) k (i .0)
 abbrev μ-loop : tie.MeasureT-loop
 μ-loop journal lsns₀ k₀ i₀ lsns k i = count journal - k
 
-loop-holds : tie.Need-loop-holds Inv-loop μ-loop
-loop-holds c = (search walking-start, search)
-
-mul-lsns : tie.Need-mul-lsns Inv-loop μ-loop
-mul-lsns c = search (walking-in, needs)
-
-slice-write-lsns : tie.Need-slice-write-lsns Inv-loop μ-loop
-slice-write-lsns c = search walking-in
-
-next-at-requires : tie.Need-next-at-requires Inv-loop μ-loop
-next-at-requires c κs = search walking-long
-
-loop-less : tie.Need-loop-less Inv-loop μ-loop
-loop-less c = search walking-less
-
-loop-again : tie.Need-loop-again Inv-loop μ-loop
-loop-again c = (search walking-step, search walking-write)
-
-same-length : tie.Need-same-length Inv-loop μ-loop
-same-length c = search walking-same
-
-returns : tie.Need-returns Inv-loop μ-loop
-returns c = search walking-written
-
 pub follow-spec : {M : Type 1} → statement M
 follow-spec =
     tie.close
     (tie.spec
-    Inv-loop μ-loop loop-holds mul-lsns slice-write-lsns next-at-requires
-    (λ c. search needs) loop-less loop-again same-length returns)
+    Inv-loop μ-loop (λ c. (search walking-start, search)) (λ c. search (walking-in, needs)) (λ c. search walking-in)
+    (λ c κs. search walking-long) (λ c. search needs) (λ c. search walking-less)
+    (λ c. (search walking-step, search walking-write)) (λ c. search walking-same) (λ c. search walking-written))

@@ -19,30 +19,9 @@ abbrev μ-loop : tie.MeasureT-loop
 μ-loop journal n c₀ i₀ c i =
     n - i
 
-loop-holds : tie.Need-loop-holds Inv-loop μ-loop
-loop-holds c =
-    (search needs, search counting-start)
-
-kind-at-requires : tie.Need-kind-at-requires Inv-loop μ-loop
-kind-at-requires c κs =
-    omega arith
-
-raise-requires : tie.Need-raise-requires Inv-loop μ-loop
-raise-requires c κs =
-    search counting-few
-
-loop-again : tie.Need-loop-again Inv-loop μ-loop
-loop-again c =
-    (omega arith, search counting-step)
-
-returns : tie.Need-returns Inv-loop μ-loop
-returns c =
-    search counting-end
-
 pub count-kinds-spec : {M : Type 1} → statement M
 count-kinds-spec =
     tie.close
     (tie.spec
-    Inv-loop μ-loop loop-holds
-    (λ c. search needs) kind-at-requires raise-requires
-    (λ c. omega arith) loop-again returns)
+    Inv-loop μ-loop (λ c. (search needs, search counting-start)) (λ c. search needs) (λ c κs. omega arith)
+    (λ c κs. search counting-few) (λ c. omega arith) (λ c. (omega arith, search counting-step)) (λ c. search counting-end))

@@ -15,17 +15,9 @@ returns-2 c =
     let a : tie.Start = search in
     count-refused (now (a .args .journal)) (h .header .result) (h .header .ensures) _ (p .head2 .given .1 ∙ q .head3 .given .1)
 
-count-kinds-requires : tie.Need-count-kinds-requires
-count-kinds-requires c κs =
-    (search count-long, search count-few)
-
-returns-3 : tie.Need-returns-3
-returns-3 c =
-    search count-records-done
-
 pub count-records-spec : {M : Type 1} → statement M
 count-records-spec =
     tie.close
     (tie.spec
-    (λ c κs. search needs) (λ c. search needs) (λ c. search needs) (λ c. search needs) (λ c. search needs) (λ c. search needs) returns-2
-    count-kinds-requires returns-3)
+    (λ c κs. search needs) (λ c. search needs) (λ c. search needs) (λ c. search needs) (λ c. search needs) (λ c. search needs)
+    returns-2 (λ c κs. (search count-long, search count-few)) (λ c. search count-records-done))

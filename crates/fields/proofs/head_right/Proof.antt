@@ -9,11 +9,5 @@ pub head-right-spec : {M : Type 1} → statement M
 head-right-spec =
     tie.close
     (tie.spec
-    (λ c. search head-kind)
-    (λ c. search head-reserved)
-    (λ c. search head-transaction)
-    (λ c. search head-records)
-    (λ c. search head-no-items)
-    (λ c. search head-items)
-    (λ c κs. search needs)
-    (λ c. search head-amounts))
+    (λ c. search head-kind) (λ c. search head-reserved) (λ c. search head-transaction) (λ c. search head-records)
+    (λ c. search head-no-items) (λ c. search head-items) (λ c κs. search needs) (λ c. search head-amounts))

@@ -9,12 +9,5 @@ pub header-spec : {M : Type 1} → statement M
 header-spec =
     tie.close
     (tie.spec
-    (λ c. search open-short)
-    (λ c κs. search needs)
-    (λ c κs. search needs)
-    (search needs)
-    (search needs)
-    (search needs)
-    (λ c. search read-truncated)
-    (λ c. search read-size)
-    (λ c. search read-head))
+    (λ c. search open-short) (λ c κs. search needs) (λ c κs. search needs) (search needs) (search needs) (search needs)
+    (λ c. search read-truncated) (λ c. search read-size) (λ c. search read-head))

@@ -9,7 +9,4 @@ pub no-amounts-spec : {M : Type 1} → statement M
 no-amounts-spec =
     tie.close
     (tie.spec
-    (λ c κs. search needs)
-    (λ c κs. search needs)
-    (λ c. search (both-zero, needs))
-    (λ c. search (one-not-zero, needs)))
+    (λ c κs. search needs) (λ c κs. search needs) (λ c. search (both-zero, needs)) (λ c. search (one-not-zero, needs)))

@@ -4,9 +4,5 @@ use Rattle.fields.proofs.Fields.{same-bits}
 use Rattle.fields.proofs.same.Statement.{statement}
 use Rattle.fields.proofs.same.Tie as tie
 
-returns : tie.Need-returns
-returns c =
-    same-bits (c .args .a) (c .args .b) (c .fits .a) (c .fits .b)
-
 pub same-spec : {M : Type 1} → statement M
-same-spec = tie.close (tie.spec returns)
+same-spec = tie.close (tie.spec (λ c. same-bits (c .args .a) (c .args .b) (c .fits .a) (c .fits .b)))

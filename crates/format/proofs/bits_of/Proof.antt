@@ -20,9 +20,6 @@ below c = below-zero (c .before .args .x) (c .before .fits .x) (rw (same (c .bef
 cast-result : tie.Need-cast-result
 cast-result c = rw (same (c .before)) (at-least-zero (c .before .args .x) (c .before .fits .x) (rw (same (c .before)) at (c .if1 .taken)) .0)
 
-sub-result : tie.Need-sub-result
-sub-result c = rw (same (c .before), below c .1) (record { sfits = below c .2 })
-
 cast-result-2 : tie.Need-cast-result-2
 cast-result-2 c =
     rw (same (c .before), below c .1, toZ-ofZ w32 (pos (below c .0)) (record { sfits = below c .2 }))
@@ -40,4 +37,8 @@ returns-2 c =
     rw (same (c .before), below c .1, toZ-ofZ w32 (pos (below c .0)) (record { sfits = below c .2 })) (below c .3)
 
 pub bits-of-spec : {M : Type 1} → statement M
-bits-of-spec = tie.close (tie.spec cast-result sub-result cast-result-2 sub-result-2 returns returns-2)
+bits-of-spec =
+    tie.close
+    (tie.spec
+    cast-result (λ c. rw (same (c .before), below c .1) (record { sfits = below c .2 })) cast-result-2 sub-result-2 returns
+    returns-2)

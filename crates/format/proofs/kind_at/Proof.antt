@@ -6,8 +6,5 @@ use borrow.Author.Needs.{needs}
 use Rattle.format.proofs.kind_at.Statement.{statement}
 use Rattle.format.proofs.kind_at.Tie as tie
 
-returns : tie.Need-returns
-returns c = sym (kind-at _ _)
-
 pub kind-at-spec : {M : Type 1} → statement M
-kind-at-spec = tie.close (tie.spec (search needs) (search needs) (search needs) returns)
+kind-at-spec = tie.close (tie.spec (search needs) (search needs) (search needs) (λ c. sym (kind-at _ _)))

@@ -6,8 +6,8 @@ use borrow.Author.Needs.{needs}
 use Rattle.format.proofs.next_at.Statement.{statement}
 use Rattle.format.proofs.next_at.Tie as tie
 
-returns : tie.Need-returns
-returns c = c .value4 .ensures ∙ sym (next-at _ _)
-
 pub next-at-spec : {M : Type 1} → statement M
-next-at-spec = tie.close (tie.spec (search needs) (search needs) (search needs) (search needs) returns)
+next-at-spec =
+    tie.close
+    (tie.spec
+    (search needs) (search needs) (search needs) (search needs) (λ c. c .value4 .ensures ∙ sym (next-at _ _)))

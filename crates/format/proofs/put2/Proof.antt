@@ -8,10 +8,9 @@ use borrow.Author.Needs.{needs}
 use Rattle.format.proofs.put2.Statement.{statement}
 use Rattle.format.proofs.put2.Tie as tie
 
-returns : tie.Need-returns
-returns c = two-stored (c .args .at) (c .args .x) (now (c .args .out)) (c .pre)
-
 pub put2-spec : {M : Type 1} → statement M
 put2-spec =
     tie.close
-    (tie.spec (search needs) (search needs) (search needs) (search needs) (λ c. simp length-set (omega arith)) (search needs) returns)
+    (tie.spec
+    (search needs) (search needs) (search needs) (search needs) (λ c. simp length-set (omega arith)) (search needs)
+    (λ c. two-stored (c .args .at) (c .args .x) (now (c .args .out)) (c .pre)))

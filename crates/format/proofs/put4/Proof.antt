@@ -8,23 +8,10 @@ use borrow.Author.Needs.{needs}
 use Rattle.format.proofs.put4.Statement.{statement}
 use Rattle.format.proofs.put4.Tie as tie
 
-returns : tie.Need-returns
-returns c = four-stored (c .args .at) (c .args .x) (now (c .args .out)) (c .pre)
-
 pub put4-spec : {M : Type 1} → statement M
 put4-spec =
     tie.close
     (tie.spec
-    (search needs)
-    (search needs)
-    (search needs)
-    (search needs)
-    (λ c. simp length-set (omega arith))
-    (search needs)
-    (search needs)
-    (λ c. simp length-set (omega arith))
-    (search needs)
-    (search needs)
-    (λ c. simp length-set (omega arith))
-    (search needs)
-    returns)
+    (search needs) (search needs) (search needs) (search needs) (λ c. simp length-set (omega arith)) (search needs)
+    (search needs) (λ c. simp length-set (omega arith)) (search needs) (search needs) (λ c. simp length-set (omega arith))
+    (search needs) (λ c. four-stored (c .args .at) (c .args .x) (now (c .args .out)) (c .pre)))

@@ -41,11 +41,7 @@ pub put-record-spec : {M : Type 1} → statement M
 put-record-spec =
     tie.close
     (tie.spec
-    (search needs)
-    (search needs)
-    (search needs)
-    (λ c. search needs)
-    (λ c κs. simp length-set (omega arith))
+    (search needs) (search needs) (search needs) (λ c. search needs) (λ c κs. simp length-set (omega arith))
     (λ c κs. omega (arith, first-length (c .before .before)))
     (λ c κs. omega (arith, first-length (c .before .before .before .before .before .before)))
     (λ c κs. omega (arith, first-length (c .before .before .before .before .before .before .before .before .before .before)))

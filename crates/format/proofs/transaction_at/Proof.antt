@@ -6,8 +6,8 @@ use borrow.Author.Needs.{needs}
 use Rattle.format.proofs.transaction_at.Statement.{statement}
 use Rattle.format.proofs.transaction_at.Tie as tie
 
-returns : tie.Need-returns
-returns c = c .value2 .ensures ∙ sym (transaction-at _ _)
-
 pub transaction-at-spec : {M : Type 1} → statement M
-transaction-at-spec = tie.close (tie.spec (search needs) (search needs) (search needs) (search needs) returns)
+transaction-at-spec =
+    tie.close
+    (tie.spec
+    (search needs) (search needs) (search needs) (search needs) (λ c. c .value2 .ensures ∙ sym (transaction-at _ _)))

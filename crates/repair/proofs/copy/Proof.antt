@@ -5,13 +5,9 @@ use Rattle.repair.proofs.CopyLaws.{copied-all}
 use Rattle.repair.proofs.copy.Statement.{statement}
 use Rattle.repair.proofs.copy.Tie as tie
 
-returns : tie.Need-returns
-returns c =
-    search copied-all
-
 pub copy-spec : {M : Type 1} → statement M
 copy-spec =
     tie.close
     (tie.spec
     (λ c κs. search needs) (λ c. search needs) (λ c. search needs) (λ c. search needs) (λ c κs. search needs)
-    (λ c κs. search needs) (λ c. search needs) returns)
+    (λ c κs. search needs) (λ c. search needs) (λ c. search copied-all))

@@ -17,24 +17,9 @@ abbrev μ-loop : tie.MeasureT-loop
 μ-loop codes v count₀ s₀ count s =
     1024 - s
 
-loop-holds : tie.Need-loop-holds Inv-loop μ-loop
-loop-holds c =
-    (omega arith, search number-start)
-
-raised-requires : tie.Need-raised-requires Inv-loop μ-loop
-raised-requires c κs =
-    search number-few
-
-loop-again : tie.Need-loop-again Inv-loop μ-loop
-loop-again c =
-    (omega arith, search number-step)
-
-returns : tie.Need-returns Inv-loop μ-loop
-returns c =
-    search number-done
-
 pub number-of-spec : {M : Type 1} → statement M
 number-of-spec =
     tie.close
     (tie.spec
-    Inv-loop μ-loop loop-holds (λ c. omega arith) (λ c κs. search needs) raised-requires (λ c. omega arith) loop-again returns)
+    Inv-loop μ-loop (λ c. (omega arith, search number-start)) (λ c. omega arith) (λ c κs. search needs)
+    (λ c κs. search number-few) (λ c. omega arith) (λ c. (omega arith, search number-step)) (λ c. search number-done))

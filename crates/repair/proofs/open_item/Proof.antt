@@ -5,16 +5,9 @@ use Rattle.repair.proofs.ReplayLaws.{opened-first, opened-later}
 use Rattle.repair.proofs.open_item.Statement.{statement}
 use Rattle.repair.proofs.open_item.Tie as tie
 
-returns : tie.Need-returns
-returns c =
-    search (opened-first, needs)
-
-returns-2 : tie.Need-returns-2
-returns-2 c =
-    search opened-later
-
 pub open-item-spec : {M : Type 1} → statement M
 open-item-spec =
     tie.close
     (tie.spec
-    (λ c. search needs) (λ c κs. search needs) (λ c κs. search needs) (λ c. search needs) returns returns-2)
+    (λ c. search needs) (λ c κs. search needs) (λ c κs. search needs) (λ c. search needs) (λ c. search (opened-first, needs))
+    (λ c. search opened-later))

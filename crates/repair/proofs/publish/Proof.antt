@@ -15,47 +15,11 @@ Inv-loop fates status₀ s₀ status s =
     (s ≤ 1025) × (status ≡ partly (elements fates) s status₀) × (length status ≡ length status₀)
 
 abbrev μ-loop : tie.MeasureT-loop
-μ-loop fates status₀ s₀ status s =
-    1025 - s
-
-loop-holds : tie.Need-loop-holds Inv-loop μ-loop
-loop-holds c =
-    (omega arith, search partly-start, refl)
-
-shared-slice-read-status : tie.Need-shared-slice-read-status Inv-loop μ-loop
-shared-slice-read-status c = search needs
-
-slice-write-status : tie.Need-slice-write-status Inv-loop μ-loop
-slice-write-status c = search needs
-
-add-s : tie.Need-add-s Inv-loop μ-loop
-add-s c = omega arith
-
-loop-less : tie.Need-loop-less Inv-loop μ-loop
-loop-less c = omega arith
-
-loop-again : tie.Need-loop-again Inv-loop μ-loop
-loop-again c =
-    (omega arith, search publish-step, search needs)
-
-same-length : tie.Need-same-length Inv-loop μ-loop
-same-length c = search needs
-
-returns : tie.Need-returns Inv-loop μ-loop
-returns c =
-    search publish-done
+μ-loop fates status₀ s₀ status s = 1025 - s
 
 pub publish-spec : {M : Type 1} → statement M
 publish-spec =
     tie.close
     (tie.spec
-    Inv-loop
-    μ-loop
-    loop-holds
-    shared-slice-read-status
-    slice-write-status
-    add-s
-    loop-less
-    loop-again
-    same-length
-    returns)
+    Inv-loop μ-loop (λ c. (omega arith, search partly-start, refl)) (λ c. search needs) (λ c. search needs) (λ c. omega arith)
+    (λ c. omega arith) (λ c. (omega arith, search publish-step, search needs)) (λ c. search needs) (λ c. search publish-done))

@@ -20,25 +20,14 @@ abbrev μ-loop : tie.MeasureT-loop
 μ-loop journal n fates all₀ surviving₀ i₀ all surviving i =
     n - i
 
-loop-holds : tie.Need-loop-holds Inv-loop μ-loop
-loop-holds c =
-    (omega arith, search rank-start, search ranks-start, refl)
-
 next-rank-requires : tie.Need-next-rank-requires Inv-loop μ-loop
 next-rank-requires c κs =
     (omega arith, omega arith, omega (arith, rank-at-most _ _ _ _ (c .before .loop .inv .1)))
-
-loop-again : tie.Need-loop-again Inv-loop μ-loop
-loop-again c =
-    (omega arith, search surviving-step, search ranks-step, search)
-
-returns : tie.Need-returns Inv-loop μ-loop
-returns c =
-    search ranks-done
 
 pub ranks-spec : {M : Type 1} → statement M
 ranks-spec =
     tie.close
     (tie.spec
-    Inv-loop μ-loop loop-holds next-rank-requires (λ c. omega arith) (λ c. search needs) (λ c. search needs) (λ c. search needs)
-    (λ c. omega arith) loop-again returns)
+    Inv-loop μ-loop (λ c. (omega arith, search rank-start, search ranks-start, refl)) next-rank-requires (λ c. omega arith)
+    (λ c. search needs) (λ c. search needs) (λ c. search needs) (λ c. omega arith)
+    (λ c. (omega arith, search surviving-step, search ranks-step, search)) (λ c. search ranks-done))

@@ -9,13 +9,9 @@ returns : tie.Need-returns
 returns c =
     (search seen-write, let t : tie.After-struct-told = search in let f = t .struct-told .given in search (table-write, needs, f))
 
-returns-2 : tie.Need-returns-2
-returns-2 c =
-    (search seen-other, search table-other)
-
 pub replay-record-spec : {M : Type 1} → statement M
 replay-record-spec =
     tie.close
     (tie.spec
     (λ c. search needs) (λ c κs. search needs) (λ c κs. search needs) (λ c. search needs) (λ c κs. search needs)
-    (λ c. search needs) (λ c. search needs) returns returns-2)
+    (λ c. search needs) (λ c. search needs) returns (λ c. (search seen-other, search table-other)))

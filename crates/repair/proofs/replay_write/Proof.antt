@@ -5,17 +5,9 @@ use Rattle.repair.proofs.ReplayLaws.{write-surviving, write-undone}
 use Rattle.repair.proofs.replay_write.Statement.{statement}
 use Rattle.repair.proofs.replay_write.Tie as tie
 
-returns : tie.Need-returns
-returns c =
-    search (write-surviving, needs)
-
-returns-2 : tie.Need-returns-2
-returns-2 c =
-    search (write-undone, needs)
-
 pub replay-write-spec : {M : Type 1} → statement M
 replay-write-spec =
     tie.close
     (tie.spec
-    (λ c κs. search needs) (λ c κs. search needs) (λ c κs. search needs) (λ c. search needs) returns (λ c. search needs)
-    returns-2)
+    (λ c κs. search needs) (λ c κs. search needs) (λ c κs. search needs) (λ c. search needs)
+    (λ c. search (write-surviving, needs)) (λ c. search needs) (λ c. search (write-undone, needs)))

@@ -24,10 +24,12 @@ abbrev μ-loop : tie.MeasureT-loop
 
 loop-again : tie.Need-loop-again Inv-loop μ-loop
 loop-again c =
-    let l = c .before .before .before .loop in
-    filling-step _ _ _ (l .inv) (omega arith) (omega arith)
+    let v : tie.After-value4 Inv-loop μ-loop = search in
+    let h : tie.At-loop Inv-loop μ-loop = search in
+    let s : tie.Start Inv-loop μ-loop = search in
+    filling-step _ _ _ (h .loop .inv) (omega arith) (omega arith)
     (amount-bits {z = c .amount-of .result} (record { sfits = c .amount-of .ok })
-    ∙ c .amount-of .ensures ∙ ap amount (c .before .value4 .ensures ∙ entry-is 4 (now (c .before .before .before .before .before .args .file)) (l .i)))
+    ∙ c .amount-of .ensures ∙ ap amount (v .value4 .ensures ∙ entry-is 4 (now (s .args .file)) (h .loop .i)))
 
 returns : tie.Need-returns Inv-loop μ-loop
 returns c = (refl, rw amounts-each (filling-end _ _ _ (c .before .loop .inv) (omega arith)))

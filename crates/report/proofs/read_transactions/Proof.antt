@@ -17,9 +17,9 @@ abbrev μ-loop : tie.MeasureT-loop
 
 loop-again : tie.Need-loop-again Inv-loop μ-loop
 loop-again c =
-    let l = c .before .before .loop in
-    filling-step _ _ _ (l .inv) (omega arith) (omega arith)
-    (c .value2 .ensures ∙ entry-is 2 (now (c .before .before .before .before .before .args .file)) (l .i))
+    let h : tie.At-loop Inv-loop μ-loop = search in
+    let s : tie.Start Inv-loop μ-loop = search in
+    filling-step _ _ _ (h .loop .inv) (omega arith) (omega arith) (c .value2 .ensures ∙ entry-is 2 (now (s .args .file)) (h .loop .i))
 
 returns : tie.Need-returns Inv-loop μ-loop
 returns c = (refl, rw transactions-each (filling-end _ _ _ (c .before .loop .inv) (omega arith)))

@@ -8,21 +8,21 @@ use Rattle.report.proofs.PrintedLaws.{readOf-part, filesReport-put, fil
 use Rattle.report.proofs.report_files.Statement.{statement}
 use Rattle.report.proofs.report_files.Tie as tie
 
-returns : tie.Need-returns
-returns c = (tt, ((omega arith, refl), tt))
-
 returns-2 : tie.Need-returns-2
 returns-2 c =
-    let r : tie.After-report = c .before .before in
-    let r3 : tie.After-read-of3 = r .before .before .before .before .before in
-    let a = r3 .before .before .before .before .before .before .before .before .args in
-    let j = readOf-part (r3 .before .before .read-of .result) (now (a .journal)) (r3 .before .before .read-of .ensures .2) in
-    let t = readOf-part (r3 .before .read-of2 .result) (now (a .table)) (r3 .before .read-of2 .ensures .2) in
+    let r1 : tie.After-read-of = search in
+    let s : tie.Start = search in
+    let r2 : tie.After-read-of2 = search in
+    let r3 : tie.After-read-of3 = search in
+    let p : tie.After-report = search in
+    let a = s .args in
+    let j = readOf-part (r1 .read-of .result) (now (a .journal)) (r1 .read-of .ensures .2) in
+    let t = readOf-part (r2 .read-of2 .result) (now (a .table)) (r2 .read-of2 .ensures .2) in
     let b = readOf-part (r3 .read-of3 .result) (now (a .bad)) (r3 .read-of3 .ensures .2) in (
       omega arith,
       (
-        (omega arith, filesReport-put (now (a .journal)) (now (a .table)) (now (a .bad)) j t b (r .report .ensures .1 .0)),
-        filesReport-reports (now (a .journal)) (now (a .table)) (now (a .bad)) j t b (r .report .ensures .1 .1),
+        (omega arith, filesReport-put (now (a .journal)) (now (a .table)) (now (a .bad)) j t b (p .report .ensures .1 .0)),
+        filesReport-reports (now (a .journal)) (now (a .table)) (now (a .bad)) j t b (p .report .ensures .1 .1),
       ),
     )
 
@@ -30,19 +30,7 @@ pub report-files-spec : {M : Type 1} → statement M
 report-files-spec =
     tie.close
     (tie.spec
-    returns
-    (λ c κs. search needs)
-    (λ c κs. search needs)
-    (λ c κs. search needs)
-    (search needs)
-    (search needs)
-    (search needs)
-    (search needs)
-    (search needs)
-    (search needs)
-    (search needs)
-    (search needs)
-    (search needs)
-    (λ c κs. search needs)
-    (search needs)
-    returns-2)
+    (λ c. (tt, ((omega arith, refl), tt)))
+    (λ c κs. search needs) (λ c κs. search needs) (λ c κs. search needs)
+    (search needs) (search needs) (search needs) (search needs) (search needs) (search needs) (search needs) (search needs) (search needs)
+    (λ c κs. search needs) (search needs) returns-2)

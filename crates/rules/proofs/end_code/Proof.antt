@@ -4,13 +4,5 @@ use Rattle.rules.proofs.NoteLaws.{end-commit, end-abort}
 use Rattle.rules.proofs.end_code.Statement.{statement}
 use Rattle.rules.proofs.end_code.Tie as tie
 
-returns : tie.Need-returns
-returns c =
-    search end-commit
-
-returns-2 : tie.Need-returns-2
-returns-2 c =
-    search end-abort
-
 pub end-code-spec : {M : Type 1} → statement M
-end-code-spec = tie.close (tie.spec returns returns-2)
+end-code-spec = tie.close (tie.spec (λ c. search end-commit) (λ c. search end-abort))

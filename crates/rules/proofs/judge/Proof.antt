@@ -5,21 +5,9 @@ use borrow.Author.Needs.{needs}
 use Rattle.rules.proofs.judge.Statement.{statement}
 use Rattle.rules.proofs.judge.Tie as tie
 
-end-at-requires : tie.Need-end-at-requires
-end-at-requires c κs =
-    search tx-in
-
-returns : tie.Need-returns
-returns c =
-    search rule-terminated
-
-returns-4 : tie.Need-returns-4
-returns-4 c =
-    search rule-end
-
 pub judge-spec : {M : Type 1} → statement M
 judge-spec =
     tie.close
     (tie.spec
-    (λ c. search needs) end-at-requires returns
-    (λ c κs. search needs) (λ c κs. search needs) (λ c. search needs) (λ c. search needs) returns-4)
+    (λ c. search needs) (λ c κs. search tx-in) (λ c. search rule-terminated) (λ c κs. search needs) (λ c κs. search needs)
+    (λ c. search needs) (λ c. search needs) (λ c. search rule-end))

@@ -6,30 +6,6 @@ use borrow.Author.Needs.{needs}
 use Rattle.rules.proofs.note.Statement.{statement}
 use Rattle.rules.proofs.note.Tie as tie
 
-note-first-requires : tie.Need-note-first-requires
-note-first-requires c κs =
-    search tx-firsts
-
-note-read-requires : tie.Need-note-read-requires
-note-read-requires c κs =
-    (search read-reads, search read-links)
-
-last-writer-requires : tie.Need-last-writer-requires
-last-writer-requires c κs =
-    (search, search, search, search item-write)
-
-note-write-requires : tie.Need-note-write-requires
-note-write-requires c κs =
-    (search write-writes, search write-bases, search write-reads)
-
-slice-write-ends : tie.Need-slice-write-ends
-slice-write-ends c =
-    search tx-ends
-
-returns : tie.Need-returns
-returns c =
-    search state-read
-
 returns-2 : tie.Need-returns-2
 returns-2 c =
     let a : tie.Start = search in
@@ -41,16 +17,13 @@ returns-2 c =
     let q = w .note-write .ensures in
     state-write _ (a .args .n) (a .args .r) _ _ _ _ _ _ _ (p .0) (p .1) (p .2) (p .3) (p .4) (f .note-first .ensures) _ _ _ (l .last-writer .result) (k .match .keys2) (l .last-writer .ensures) (q .0) (q .1) (q .2)
 
-returns-3 : tie.Need-returns-3
-returns-3 c =
-    search state-end
-
 pub note-spec : {M : Type 1} → statement M
 note-spec =
     tie.close
     (tie.spec
-    (λ c. search needs) note-first-requires note-read-requires last-writer-requires note-write-requires
-    (λ c. search needs) (λ c κs. search needs) slice-write-ends
-    (λ c. search needs) (λ c. search needs) (λ c. search needs) returns
+    (λ c. search needs) (λ c κs. search tx-firsts) (λ c κs. (search read-reads, search read-links))
+    (λ c κs. (search, search, search, search item-write))
+    (λ c κs. (search write-writes, search write-bases, search write-reads)) (λ c. search needs) (λ c κs. search needs)
+    (λ c. search tx-ends) (λ c. search needs) (λ c. search needs) (λ c. search needs) (λ c. search state-read)
     (λ c. search needs) (λ c. search needs) (λ c. search needs) (λ c. search needs) (λ c. search needs) returns-2
-    (λ c. search needs) (λ c. search needs) returns-3)
+    (λ c. search needs) (λ c. search needs) (λ c. search state-end))

@@ -5,16 +5,9 @@ use borrow.Author.Needs.{needs}
 use Rattle.rules.proofs.note_first.Statement.{statement}
 use Rattle.rules.proofs.note_first.Tie as tie
 
-returns : tie.Need-returns
-returns c =
-    search put-first
-
-returns-2 : tie.Need-returns-2
-returns-2 c =
-    search put-later
-
 pub note-first-spec : {M : Type 1} → statement M
 note-first-spec =
     tie.close
     (tie.spec
-    (λ c. search needs) (λ c. search needs) (λ c. search needs) (λ c. search needs) (λ c. search needs) (λ c. search needs) returns returns-2)
+    (λ c. search needs) (λ c. search needs) (λ c. search needs) (λ c. search needs) (λ c. search needs) (λ c. search needs)
+    (λ c. search put-first) (λ c. search put-later))

@@ -5,13 +5,10 @@ use borrow.Author.Needs.{needs}
 use Rattle.rules.proofs.note_write.Statement.{statement}
 use Rattle.rules.proofs.note_write.Tie as tie
 
-returns-2 : tie.Need-returns-2
-returns-2 c =
-    (search, search bases-else, search)
-
 pub note-write-spec : {M : Type 1} → statement M
 note-write-spec =
     tie.close
     (tie.spec
-    (λ c. search needs) (λ c. search needs) (λ c. search needs) (λ c. search needs) (λ c. search needs) (λ c. search needs) (λ c. search needs)
-    (λ c. search needs) (λ c. search needs) (λ c. search needs) (λ c. search needs) (λ c. search needs) (λ c. search needs) returns-2)
+    (λ c. search needs) (λ c. search needs) (λ c. search needs) (λ c. search needs) (λ c. search needs) (λ c. search needs)
+    (λ c. search needs) (λ c. search needs) (λ c. search needs) (λ c. search needs) (λ c. search needs) (λ c. search needs)
+    (λ c. search needs) (λ c. (search, search bases-else, search)))

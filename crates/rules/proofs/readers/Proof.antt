@@ -26,14 +26,6 @@ walked l =
     let r : tie.After-lsn-at Inv-loop μ-loop = search in
     l .loop .inv (entry l .args .x .0) (entry l .pre .4) (r .lsn-at .ensures)
 
-lsn-at-requires : tie.Need-lsn-at-requires Inv-loop μ-loop
-lsn-at-requires c κs =
-    search reads-in
-
-loop-holds : tie.Need-loop-holds Inv-loop μ-loop
-loop-holds c =
-    λ x h q. search walked-start
-
 transaction-at-requires : tie.Need-transaction-at-requires Inv-loop μ-loop
 transaction-at-requires c κs =
     let l : tie.At-loop Inv-loop μ-loop = search in
@@ -73,4 +65,5 @@ pub readers-spec : {M : Type 1} → statement M
 readers-spec =
     tie.close
     (tie.spec
-    Inv-loop μ-loop lsn-at-requires loop-holds transaction-at-requires look-requires link-at-requires loop-less loop-again returns)
+    Inv-loop μ-loop (λ c κs. search reads-in) (λ c. λ x h q. search walked-start) transaction-at-requires look-requires
+    link-at-requires loop-less loop-again returns)

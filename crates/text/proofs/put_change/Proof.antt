@@ -15,13 +15,17 @@ new-is c = c .by-sign2 .ensures ∙ ap decimalZ (amount-bits (c .before .before 
 
 put-number-and-amounts-requires : tie.Need-put-number-and-amounts-requires
 put-number-and-amounts-requires c κs =
-    let b : tie.After-by-sign2 = c .before .before .before .before in
-    rw (old-is (b .before), new-is b) (b .before .before .before .pre)
+    let n : tie.After-by-sign2 = search in
+    let o : tie.After-by-sign = search in
+    let s : tie.Start = search in
+    rw (old-is o, new-is n) (s .pre)
 
 returns : tie.Need-returns
 returns c =
-    let b : tie.After-by-sign2 = c .before .before .before .before .before .before .before in
-    rw (old-is (b .before), new-is b) at (c .before .before .put-number-and-amounts .ensures)
+    let p : tie.After-put-number-and-amounts = search in
+    let n : tie.After-by-sign2 = search in
+    let o : tie.After-by-sign = search in
+    rw (old-is o, new-is n) at (p .put-number-and-amounts .ensures)
 
 pub put-change-spec : {M : Type 1} → statement M
 put-change-spec =

@@ -7,23 +7,29 @@ use Rattle.text.proofs.put_signed.Tie as tie
 
 put-number-requires : tie.Need-put-number-requires
 put-number-requires c κs =
-    let s : tie.Start = c .before .before .before .before in
-    rw (decimalS-minus (s .args .x) (c .before .before .if1 .taken)) at (s .pre)
+    let t : tie.Then1 = search in
+    let s : tie.Start = search in
+    rw (decimalS-minus (s .args .x) (t .if1 .taken)) at (s .pre)
 
 put-decimal-requires : tie.Need-put-decimal-requires
 put-decimal-requires c κs =
-    let s : tie.Start = c .before .before .before in
-    rw (decimalS-plus (s .args .x) (c .before .if1 .left)) at (s .pre)
+    let e : tie.Else1 = search in
+    let s : tie.Start = search in
+    rw (decimalS-plus (s .args .x) (e .if1 .left)) at (s .pre)
 
 returns : tie.Need-returns
 returns c =
-    let t : tie.Then1 = c .before .before .before .before .before in
-    rw (decimalS-minus (t .before .before .args .x) (t .if1 .taken)) (c .before .before .put-number .ensures)
+    let p : tie.After-put-number = search in
+    let t : tie.Then1 = search in
+    let s : tie.Start = search in
+    rw (decimalS-minus (s .args .x) (t .if1 .taken)) (p .put-number .ensures)
 
 returns-2 : tie.Need-returns-2
 returns-2 c =
-    let e : tie.Else1 = c .before .before .before .before in
-    rw (decimalS-plus (e .before .before .args .x) (e .if1 .left)) (c .before .before .put-decimal .ensures)
+    let p : tie.After-put-decimal = search in
+    let e : tie.Else1 = search in
+    let s : tie.Start = search in
+    rw (decimalS-plus (s .args .x) (e .if1 .left)) (p .put-decimal .ensures)
 
 pub put-signed-spec : {M : Type 1} → statement M
 put-signed-spec = tie.close (tie.spec (search needs) put-number-requires put-decimal-requires (search needs) returns (search needs) returns-2)

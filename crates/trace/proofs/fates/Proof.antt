@@ -17,22 +17,10 @@ abbrev μ-loop : tie.MeasureT-loop
 μ-loop ends flags all₀ s₀ all s =
     1025 - s
 
-loop-holds : tie.Need-loop-holds Inv-loop μ-loop
-loop-holds c =
-    (omega arith, search partly-start)
-
-loop-again : tie.Need-loop-again Inv-loop μ-loop
-loop-again c =
-    (omega arith, search fates-step)
-
-returns : tie.Need-returns Inv-loop μ-loop
-returns c =
-    search fates-done
-
 pub fates-spec : {M : Type 1} → statement M
 fates-spec =
     tie.close
     (tie.spec
-    Inv-loop μ-loop loop-holds
-    (λ c κs. search needs) (λ c κs. search needs) (λ c. search needs) (λ c κs. search needs) (λ c. search needs)
-    (λ c. omega arith) (λ c. omega arith) loop-again returns)
+    Inv-loop μ-loop (λ c. (omega arith, search partly-start)) (λ c κs. search needs) (λ c κs. search needs) (λ c. search needs)
+    (λ c κs. search needs) (λ c. search needs) (λ c. omega arith) (λ c. omega arith) (λ c. (omega arith, search fates-step))
+    (λ c. search fates-done))

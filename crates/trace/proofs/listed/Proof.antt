@@ -19,26 +19,10 @@ abbrev μ-loop : tie.MeasureT-loop
 μ-loop bad flags₀ k₀ flags k =
     k
 
-loop-holds : tie.Need-loop-holds Inv-loop μ-loop
-loop-holds c =
-    (omega arith, search listed-start)
-
-slice-aggregate-set-code-of : tie.Need-slice-aggregate-set-code-of Inv-loop μ-loop
-slice-aggregate-set-code-of c =
-    search flags-count
-
-loop-again : tie.Need-loop-again Inv-loop μ-loop
-loop-again c =
-    (omega arith, search listed-step)
-
-returns : tie.Need-returns Inv-loop μ-loop
-returns c =
-    search listed-done
-
 pub listed-spec : {M : Type 1} → statement M
 listed-spec =
     tie.close
     (tie.spec
-    Inv-loop μ-loop loop-holds
-    (λ c. omega arith) (λ c. search needs) (λ c. search needs) slice-aggregate-set-code-of
-    (λ c κs. search needs) (λ c. omega arith) loop-again returns)
+    Inv-loop μ-loop (λ c. (omega arith, search listed-start)) (λ c. omega arith) (λ c. search needs) (λ c. search needs)
+    (λ c. search flags-count) (λ c κs. search needs) (λ c. omega arith) (λ c. (omega arith, search listed-step))
+    (λ c. search listed-done))

@@ -5,12 +5,8 @@ use Rattle.lists.proofs.TablesLaws.{set-behind}
 use Rattle.trace.proofs.set_source.Statement.{statement}
 use Rattle.trace.proofs.set_source.Tie as tie
 
-returns-2 : tie.Need-returns-2
-returns-2 c =
-    search set-behind
-
 pub set-source-spec : {M : Type 1} → statement M
 set-source-spec =
     tie.close
     (tie.spec
-    (λ c. search needs) (λ c. search needs) (λ c. search needs) (λ c. search needs) (λ c. search needs) returns-2)
+    (λ c. search needs) (λ c. search needs) (λ c. search needs) (λ c. search needs) (λ c. search needs) (λ c. search set-behind))

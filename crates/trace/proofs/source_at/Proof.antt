@@ -5,12 +5,8 @@ use Rattle.lists.proofs.TablesLaws.{none-behind}
 use Rattle.trace.proofs.source_at.Statement.{statement}
 use Rattle.trace.proofs.source_at.Tie as tie
 
-returns-2 : tie.Need-returns-2
-returns-2 c =
-    search none-behind
-
 pub source-at-spec : {M : Type 1} → statement M
 source-at-spec =
     tie.close
     (tie.spec
-    (λ c. search needs) (λ c. search needs) (λ c. search needs) (λ c. search needs) returns-2)
+    (λ c. search needs) (λ c. search needs) (λ c. search needs) (λ c. search needs) (λ c. search none-behind))

@@ -5,16 +5,8 @@ use Rattle.trace.proofs.TraceLaws.{write-isSource, write-idle}
 use Rattle.trace.proofs.trace_write.Statement.{statement}
 use Rattle.trace.proofs.trace_write.Tie as tie
 
-returns : tie.Need-returns
-returns c =
-    search write-isSource
-
-returns-2 : tie.Need-returns-2
-returns-2 c =
-    search write-idle
-
 pub trace-write-spec : {M : Type 1} → statement M
 trace-write-spec =
     tie.close
     (tie.spec
-    (λ c κs. search needs) (λ c κs. search needs) (λ c. search needs) returns returns-2)
+    (λ c κs. search needs) (λ c κs. search needs) (λ c. search needs) (λ c. search write-isSource) (λ c. search write-idle))

@@ -17,10 +17,6 @@ Inv-loop ends firsts count₀ s₀ count s = (1 ≤ s) × (s ≤ 1025) × (count
 abbrev μ-loop : tie.MeasureT-loop
 μ-loop ends firsts count₀ s₀ count s = 1025 - s
 
-loop-holds : tie.Need-loop-holds Inv-loop μ-loop
-loop-holds c =
-    (omega arith, omega arith, search count-start, omega arith)
-
 loop-again : tie.Need-loop-again Inv-loop μ-loop
 loop-again c =
     let t : tie.In-loop Inv-loop μ-loop = search in
@@ -33,13 +29,9 @@ loop-again c =
     (λ w. (omega arith, omega arith, w .1 ∙ count-no f (l .s) (l .count) (l .inv .0) (l .inv .2) (r .result) (r .ensures) (w .0 .left), omega arith))
     (c .if1 .came)
 
-returns : tie.Need-returns Inv-loop μ-loop
-returns c =
-    search count-done
-
 pub active-count-spec : {M : Type 1} → statement M
 active-count-spec =
     tie.close
     (tie.spec
-    Inv-loop μ-loop loop-holds
-    (λ c κs. omega arith) (λ c. omega arith) (λ c. omega arith) (λ c. omega arith) loop-again returns)
+    Inv-loop μ-loop (λ c. (omega arith, omega arith, search count-start, omega arith)) (λ c κs. omega arith) (λ c. omega arith)
+    (λ c. omega arith) (λ c. omega arith) loop-again (λ c. search count-done))

@@ -14,30 +14,10 @@ Inv-loop journal n slots₀ low₀ i₀ slots low i = (i ≤ n) × (slots ≡ ne
 abbrev μ-loop : tie.MeasureT-loop
 μ-loop journal n slots₀ low₀ i₀ slots low i = i
 
-loop-holds : tie.Need-loop-holds Inv-loop μ-loop
-loop-holds c =
-    (omega arith, search back-start, search back-start-low)
-
-slice-aggregate-step-back : tie.Need-slice-aggregate-step-back Inv-loop μ-loop
-slice-aggregate-step-back c =
-    search slots-count
-
-step-back-requires : tie.Need-step-back-requires Inv-loop μ-loop
-step-back-requires c κs =
-    (omega arith, omega arith, omega arith, search slots-same)
-
-loop-again : tie.Need-loop-again Inv-loop μ-loop
-loop-again c =
-    (omega arith, search, search back-step)
-
-returns : tie.Need-returns Inv-loop μ-loop
-returns c =
-    search back-done
-
 pub broken-link-spec : {M : Type 1} → statement M
 broken-link-spec =
     tie.close
     (tie.spec
-    Inv-loop μ-loop loop-holds
-    (λ c. omega arith) slice-aggregate-step-back step-back-requires
-    (λ c. omega arith) loop-again returns)
+    Inv-loop μ-loop (λ c. (omega arith, search back-start, search back-start-low)) (λ c. omega arith) (λ c. search slots-count)
+    (λ c κs. (omega arith, omega arith, omega arith, search slots-same)) (λ c. omega arith)
+    (λ c. (omega arith, search, search back-step)) (λ c. search back-done))

@@ -8,10 +8,6 @@ use borrow.Author.Needs.{needs}
 use Rattle.validate.proofs.check.Statement.{statement}
 use Rattle.validate.proofs.check.Tie as tie
 
-verify-requires : tie.Need-verify-requires
-verify-requires c κs =
-    search state-start
-
 returns-2 : tie.Need-returns-2
 returns-2 c =
     let q : tie.After-passed3 = search in
@@ -31,6 +27,6 @@ pub check-spec : {M : Type 1} → statement M
 check-spec =
     tie.close
     (tie.spec
-    (λ c. search needs) (λ c. search needs) (λ c. search needs) (λ c. search needs) (λ c. search needs) (λ c. search needs) verify-requires
-    (λ c. search needs) (λ c. search needs) (λ c. search needs) (λ c. search needs) (λ c. search needs) returns-2
-    (λ c. search needs) (λ c. search needs) (λ c κs. search needs) returns-3)
+    (λ c. search needs) (λ c. search needs) (λ c. search needs) (λ c. search needs) (λ c. search needs) (λ c. search needs)
+    (λ c κs. search state-start) (λ c. search needs) (λ c. search needs) (λ c. search needs) (λ c. search needs)
+    (λ c. search needs) returns-2 (λ c. search needs) (λ c. search needs) (λ c κs. search needs) returns-3)

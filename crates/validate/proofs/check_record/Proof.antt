@@ -9,20 +9,9 @@ judge-requires : tie.Need-judge-requires
 judge-requires c κs =
     (search, search, search, search, search, search, search record-formed, search)
 
-returns : tie.Need-returns
-returns c =
-    search record-chain
-
-returns-2 : tie.Need-returns-2
-returns-2 c =
-    search record-rest
-
-returns-3 : tie.Need-returns-3
-returns-3 c =
-    search record-malformed
-
 pub check-record-spec : {M : Type 1} → statement M
 check-record-spec =
     tie.close
     (tie.spec
-    (λ c. search needs) (λ c κs. search needs) judge-requires returns returns-2 returns-3)
+    (λ c. search needs) (λ c κs. search needs) judge-requires (λ c. search record-chain) (λ c. search record-rest)
+    (λ c. search record-malformed))

@@ -18,30 +18,10 @@ Inv-loop journal n table ends writes bases keys x₀ x = (x ≤ length table) ×
 abbrev μ-loop : tie.MeasureT-loop
 μ-loop journal n table ends writes bases keys x₀ x = length table - x
 
-loop-holds : tie.Need-loop-holds Inv-loop μ-loop
-loop-holds c =
-    (omega arith, search settle-start)
-
-settled-requires : tie.Need-settled-requires Inv-loop μ-loop
-settled-requires c κs =
-    (search, search, search, search, search, omega arith, omega arith)
-
-loop-again : tie.Need-loop-again Inv-loop μ-loop
-loop-again c =
-    (omega arith, search settle-more)
-
-returns : tie.Need-returns Inv-loop μ-loop
-returns c =
-    search settle-refused
-
-returns-2 : tie.Need-returns-2 Inv-loop μ-loop
-returns-2 c =
-    search tried-done
-
 pub final-state-spec : {M : Type 1} → statement M
 final-state-spec =
     tie.close
     (tie.spec
-    Inv-loop μ-loop
-    (λ c. omega arith) loop-holds settled-requires
-    (λ c. omega arith) (λ c. omega arith) loop-again returns returns-2)
+    Inv-loop μ-loop (λ c. omega arith) (λ c. (omega arith, search settle-start))
+    (λ c κs. (search, search, search, search, search, omega arith, omega arith)) (λ c. omega arith) (λ c. omega arith)
+    (λ c. (omega arith, search settle-more)) (λ c. search settle-refused) (λ c. search tried-done))

@@ -5,14 +5,8 @@ use borrow.Author.Needs.{needs}
 use Rattle.validate.proofs.is_active.Statement.{statement}
 use Rattle.validate.proofs.is_active.Tie as tie
 
-returns : tie.Need-returns
-returns c =
-    search active-none
-
-returns-2 : tie.Need-returns-2
-returns-2 c =
-    search active-in
-
 pub is-active-spec : {M : Type 1} → statement M
 is-active-spec =
-    tie.close (tie.spec (λ c κs. search needs) (λ c κs. search needs) returns returns-2)
+    tie.close
+    (tie.spec
+    (λ c κs. search needs) (λ c κs. search needs) (λ c. search active-none) (λ c. search active-in))

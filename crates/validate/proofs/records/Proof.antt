@@ -34,10 +34,6 @@ lengths : (l : tie.At-loop Inv-loop μ-loop)
     → Lengths (now (entry l .args .ends)) (now (entry l .args .firsts)) (now (entry l .args .writes)) (now (entry l .args .bases)) (now (entry l .args .reads)) (now (entry l .args .links)) (l .loop .ends) (l .loop .firsts) (l .loop .writes) (l .loop .bases) (l .loop .reads) (l .loop .links)
 lengths l = same-lengths (entry l .pre .1) (l .loop .inv .3)
 
-loop-holds : tie.Need-loop-holds Inv-loop μ-loop
-loop-holds c =
-    (omega arith, search none-passed, search all-left, search)
-
 check-record-requires : tie.Need-check-record-requires Inv-loop μ-loop
 check-record-requires c κs =
     let r : tie.After-record-at Inv-loop μ-loop = search in
@@ -108,12 +104,9 @@ pub records-spec : {M : Type 1} → statement M
 records-spec =
     tie.close
     (tie.spec
-    Inv-loop μ-loop
-    (λ c κs. search needs) loop-holds
-    (λ c. omega arith) (λ c κs. omega arith) check-record-requires
-    (λ c. search needs) (λ c. search needs)
-    (λ c. lengths (head c) .ends) (λ c. lengths (head c) .firsts) (λ c. lengths (head c) .writes)
-    (λ c. lengths (head c) .bases) (λ c. lengths (head c) .reads) (λ c. lengths (head c) .links) returns
-    note-requires add-i loop-less loop-again
+    Inv-loop μ-loop (λ c κs. search needs) (λ c. (omega arith, search none-passed, search all-left, search)) (λ c. omega arith)
+    (λ c κs. omega arith) check-record-requires (λ c. search needs) (λ c. search needs) (λ c. lengths (head c) .ends)
+    (λ c. lengths (head c) .firsts) (λ c. lengths (head c) .writes) (λ c. lengths (head c) .bases)
+    (λ c. lengths (head c) .reads) (λ c. lengths (head c) .links) returns note-requires add-i loop-less loop-again
     (λ c. lengths (c .before) .ends) (λ c. lengths (c .before) .firsts) (λ c. lengths (c .before) .writes)
     (λ c. lengths (c .before) .bases) (λ c. lengths (c .before) .reads) (λ c. lengths (c .before) .links) returns-2)

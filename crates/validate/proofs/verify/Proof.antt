@@ -28,10 +28,6 @@ verify-records-requires c κs =
     let h : tie.After-header = search in
     (header-opened (now (entry h .args .journal)) (h .header .result) (h .header .ensures) _ _ (e .head .given .1), t .if1 .taken, entry h .pre)
 
-returns-2 : tie.Need-returns-2
-returns-2 c =
-    never-passed _ (c .enum-told3 .given .1)
-
 returns-3 : tie.Need-returns-3
 returns-3 c =
     let q : tie.After-passed2 = search in
@@ -67,9 +63,9 @@ pub verify-spec : {M : Type 1} → statement M
 verify-spec =
     tie.close
     (tie.spec
-    (λ c κs. search needs) (λ c. search needs) (λ c. search needs) returns
-    (λ c. search needs) verify-records-requires
-    (λ c. search needs) (λ c. search needs) (λ c. search needs) (λ c. search needs) (λ c. search needs) (λ c. search needs) (λ c. search needs)
-    (λ c. search needs) (λ c. search needs) (λ c. search needs) returns-2
-    (λ c. search needs) (λ c. search needs) (λ c. search needs) (λ c. search needs) (λ c. search needs) (λ c. search needs) returns-3
-    (λ c. search needs) (λ c. search needs) (λ c. search needs) (λ c. search needs) (λ c. search needs) (λ c. search needs) returns-4 returns-5)
+    (λ c κs. search needs) (λ c. search needs) (λ c. search needs) returns (λ c. search needs) verify-records-requires
+    (λ c. search needs) (λ c. search needs) (λ c. search needs) (λ c. search needs) (λ c. search needs) (λ c. search needs)
+    (λ c. search needs) (λ c. search needs) (λ c. search needs) (λ c. search needs)
+    (λ c. never-passed _ (c .enum-told3 .given .1)) (λ c. search needs) (λ c. search needs) (λ c. search needs)
+    (λ c. search needs) (λ c. search needs) (λ c. search needs) returns-3 (λ c. search needs) (λ c. search needs)
+    (λ c. search needs) (λ c. search needs) (λ c. search needs) (λ c. search needs) returns-4 returns-5)

@@ -9,34 +9,33 @@ use borrow.Author.Needs.{needs}
 use Rattle.validate.proofs.verify_records.Statement.{statement}
 use Rattle.validate.proofs.verify_records.Tie as tie
 
--- the entry of the function, from the records' verdict
-abbrev entry : tie.After-records → tie.Start
-entry r = r .before .before .before .before .before .before .before .before .before .before .before .before .before .before
-
 returns : tie.Need-returns
 returns c =
     let r : tie.After-records = search in
-    let a = entry r .args in
+    let s : tie.Start = search in
+    let a = s .args in
     let v = r .records in
     let e = c .enum-told2 .given .1 in
     (later-refused (now (a .journal)) (now (a .table)) (v .result) (v .ensures .0) _ e, not-passed (v .result) _ e)
 
 final-state-requires : tie.Need-final-state-requires
 final-state-requires c κs =
-    let p : tie.After-enum-told = search in
     let r : tie.After-records = search in
-    let a = entry r in
+    let s : tie.Start = search in
+    let p : tie.After-enum-told = search in
+    let a = s .args in
     let v = r .records in
-    let o = a .pre .0 in
+    let o = s .pre .0 in
     let e = p .enum-told .given .1 in
-    let s = v .ensures .1 (ap verdictOf e) in
-    (passed-ready (now (a .args .journal)) (a .args .n) (a .args .keys) (v .result) o e (v .ensures .0), o .counted, s .ended, s .written, s .based, a .pre .1 ∙ o .keys)
+    let k = v .ensures .1 (ap verdictOf e) in
+    (passed-ready (now (a .journal)) (a .n) (a .keys) (v .result) o e (v .ensures .0), o .counted, k .ended, k .written, k .based, s .pre .1 ∙ o .keys)
 
 returns-2 : tie.Need-returns-2
 returns-2 c =
-    let p : tie.After-enum-told = search in
     let r : tie.After-records = search in
-    let a = entry r .args in
+    let s : tie.Start = search in
+    let p : tie.After-enum-told = search in
+    let a = s .args in
     let v = r .records in
     let e = p .enum-told .given .1 in
     (later-settled (now (a .journal)) (now (a .table)) (v .result) (v .ensures .0) (c .final-state .result) e (c .final-state .ensures), λ z. v .ensures .1 (ap verdictOf e))

@@ -1,0 +1,2 @@
+pub mod AnswerLinesLaws
+pub mod LengthLaws
