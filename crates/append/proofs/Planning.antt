@@ -24,7 +24,7 @@ use Rattle.journal.proofs.Answered.{accepted-only, refused-only}
 use Rattle.fields.specs.declared.Headed.{Headed}
 use Rattle.fields.specs.declared.Headed.the-variants as headed
 use Rattle.fields.specs.Answers.{Size, headerOf}
-use Rattle.rules.specs.Arrays.{Ready, NoBlindTo, State}
+use Rattle.arrays.specs.Arrays.{Ready, NoBlindTo, State}
 use Rattle.validate.proofs.Whole.{checked-ready, checked-noBlind}
 use Rattle.entry.specs.Entries.{Arrays, entryOrder}
 use Rattle.append.specs.Answers.{FromTable}

@@ -20,7 +20,7 @@ use Rattle.journal.specs.Calls.{walk, chainOf}
 use Rattle.journal.proofs.Checked.{Sound, decide-sound}
 use Rattle.journal.proofs.Records.{txOf-opOf, tagOf-opOf, length-history}
 use Rattle.journal.proofs.Unrefused.{chained-next, history-numbered}
-use Rattle.rules.proofs.Found.{Found, at, first-found}
+use Rattle.arrays.proofs.Found.{Found, at, first-found}
 use Rattle.chain.specs.Visits.{lsnsOf, Visits, VisitCount}
 use Rattle.chain.proofs.Steps.{walk-end, walk-step}
 

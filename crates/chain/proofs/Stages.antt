@@ -31,14 +31,14 @@ use Rattle.journal.proofs.Passing.{head-facts}
 use Rattle.fields.specs.declared.Headed.{Headed}
 use Rattle.fields.specs.declared.Headed.the-variants as headed
 use Rattle.fields.specs.Answers.{headerOf, Opened}
+use Rattle.arrays.specs.Recent.{firstTag}
+use Rattle.arrays.specs.Arrays.{Ready, State, firstsOf}
+use Rattle.arrays.proofs.ArraysLaws.{firsts-array}
+use Rattle.arrays.proofs.Found.{Found, at, first-found, found-none, found-bound, core-right, passed-range}
 use Rattle.rules.specs.declared.Verdict.{Verdict}
 use Rattle.rules.specs.declared.Verdict.the-variants as verdict
 use Rattle.rules.specs.Answers.{verdictOf}
-use Rattle.rules.specs.Recent.{firstTag}
-use Rattle.rules.specs.Arrays.{Ready, State, firstsOf}
-use Rattle.rules.proofs.ArraysLaws.{firsts-array}
-use Rattle.rules.proofs.Found.{Found, at, first-found, found-none, found-bound, core-right, passed-range}
-use Rattle.validate.proofs.Whole.{passed-ready}
+use Rattle.scan.proofs.Pass.{passed-ready}
 use Rattle.chain.specs.declared.Begun.{Begun}
 use Rattle.chain.specs.declared.Begun.the-variants as begun
 use Rattle.chain.specs.Answers.{begunOf, firstIn, firstOrder, beginOrder}

@@ -17,8 +17,8 @@ use Rattle.model.specs.History.{txOf, tagOf, tagIn, laterOf}
 use Rattle.journal.specs.Journal.{count, txIn, whole}
 use Rattle.journal.specs.Calls.{walk, written}
 use Rattle.journal.proofs.Unrefused.{chained-next}
-use Rattle.rules.specs.Arrays.{Ready}
-use Rattle.rules.proofs.Found.{first-found, found-bound, passed-right}
+use Rattle.arrays.specs.Arrays.{Ready}
+use Rattle.arrays.proofs.Found.{first-found, found-bound, passed-right}
 
 -- ---- one record
 

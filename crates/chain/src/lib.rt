@@ -7,8 +7,8 @@ ghost use Rattle.journal.specs.Journal.{count, whole};
 ghost use Rattle.journal.specs.Orders.{decide};
 ghost use Rattle.journal.specs.Calls as calls;
 ghost use Rattle.fields.specs.Answers.{Opened};
-ghost use Rattle.rules.specs.Recent.{firstTag};
-ghost use Rattle.rules.specs.Arrays.{Ready};
+ghost use Rattle.arrays.specs.Recent.{firstTag};
+ghost use Rattle.arrays.specs.Arrays.{Ready};
 ghost use Rattle.chain.specs.Answers.{answerOf, begunOf, firstIn, firstOrder, beginOrder};
 use fields::Headed;
 use fields::header;
@@ -21,7 +21,7 @@ use format::next_at;
 use journal::Reason;
 use lists::number_at;
 use rules::Verdict;
-use validate::records;
+use scan::records;
 
 // How many records were visited. specs/Answers.antt gives document 01's answer for each case.
 pub enum Walk {

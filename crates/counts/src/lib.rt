@@ -12,7 +12,7 @@ use fields::header;
 use format::Lsn;
 use format::kind_at;
 use journal::Reason;
-use lists::raised;
+use lists::one_more;
 
 // Record counts by kind.
 pub struct Counts {
@@ -34,10 +34,10 @@ pub fn raise(c: Counts, kind: u8) -> Counts
     ensures { λ r. ⌜ recordCountsOf r ≡ calls.raised kind (recordCountsOf c) ⌝ }
 {
     Counts {
-        reads: raised(c.reads, kind, 1),
-        writes: raised(c.writes, kind, 2),
-        commits: raised(c.commits, kind, 3),
-        aborts: raised(c.aborts, kind, 4),
+        reads: one_more(c.reads, kind, 1),
+        writes: one_more(c.writes, kind, 2),
+        commits: one_more(c.commits, kind, 3),
+        aborts: one_more(c.aborts, kind, 4),
     }
 }
 

@@ -1,15 +1,16 @@
 -- The worked days hold: one test, computed over the whole table, and the lemma that turns it into the equation of each row.
 -- Document 01, "Days to try". Assumes nothing.
-use mathlib.Core.Path.{_≡_, refl, ap}
+use mathlib.Core.Path.{_≡_, refl, sym, ap, _∙_}
 use mathlib.Core.Bool.{Bool, true, false, cond, false≢true}
 use mathlib.Core.List.{List, [], _∷_}
 use Prim.Native.Nat.{ℕ, suc}
 use Rattle.lists.proofs.BoolLaws.{byCases}
+use Rattle.example.specs.Example.{example, exampleTable}
 use Rattle.journal.specs.Inputs.{inputsOf}
 use Rattle.journal.specs.Calls.{start, append, check, chain, countRecords, undo}
 use Rattle.days.proofs.Computed.{computed}
 use Rattle.days.proofs.Tests.{starts, appends, checks, chains, countings, undos}
-use Rattle.days.specs.Days.{Row, starting, appending, checking, chaining, counting, undoing, Holds, AllHold, done, _&_, days, SecondRecord, RepeatedName}
+use Rattle.days.specs.Days.{Row, starting, appending, checking, chaining, counting, undoing, Holds, AllHold, done, _&_, statusBuffer, blank, exampleLeft, days, SecondRecord, RepeatedName}
 
 -- the call gives what the row says
 abbrev passes : Row → Bool
@@ -54,6 +55,17 @@ pub second-record : SecondRecord
 unfolding computed
 second-record = record { placed = refl; means = refl; bytes = refl }
 
-pub repeated-name : RepeatedName
+-- the example with a list that leaves what list 1 does
+abbrev likeOne : List ℕ → Row
+likeOne bad = undoing example exampleTable bad statusBuffer (blank 80) exampleLeft
+
+named-once : Holds (likeOne (1 ∷ []))
 unfolding computed
-repeated-name = refl
+named-once = passes-holds (likeOne (1 ∷ [])) refl
+
+named-twice : Holds (likeOne (1 ∷ 1 ∷ []))
+unfolding computed
+named-twice = passes-holds (likeOne (1 ∷ 1 ∷ [])) refl
+
+pub repeated-name : RepeatedName
+repeated-name = named-twice ∙ sym named-once

@@ -21,8 +21,9 @@ use Rattle.journal.proofs.OrdersLaws.{decide-yes, decide-no}
 use Rattle.journal.proofs.ResultsLaws.{length-statusVector}
 use Rattle.trace.proofs.Ends.{coded-aborted}
 use Rattle.repair.specs.Copying.{Ranked, copyWith}
-use Rattle.repair.specs.Replaying.{leftAfter}
-use Rattle.repair.proofs.Repaired.{copy-surviving, copy-size, table-surviving}
+use Rattle.repair.proofs.Repaired.{copy-surviving, copy-size}
+use Rattle.replay.specs.Replaying.{leftAfter}
+use Rattle.replay.proofs.ReplayLaws.{table-surviving}
 use Rattle.deliver.specs.declared.UndoTotals.{UndoTotals}
 use Rattle.deliver.specs.Delivery.{Fates, delivered, Deliverable}
 use Rattle.deliver.specs.Answers.{totalsOf}
@@ -68,7 +69,7 @@ module _ (d : Inputs) (fates status out : List ℕ) where
           rw e (
             ap accepted (counted u p q o g),
             (
-              l ∙ table-surviving (d .journal) n (x .ready) (x .counted) fates (d .table),
+              l ∙ table-surviving (d .journal) n (x .counted) fates (d .table),
               (
                 i ∙ x .fated,
                 w ∙ rw (copy-surviving (d .journal) n (x .ready) (x .counted) fates ranks r m (x .keys)) (store-front (copySurviving unchanged (coded 1 fates) (d .journal)) out),

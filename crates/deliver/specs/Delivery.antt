@@ -13,7 +13,7 @@ use Rattle.journal.specs.Journal.{count, items, history}
 use Rattle.journal.specs.Orders.{capacityOrder, Refusal, decide}
 use Rattle.journal.specs.Copy.{unchanged, copySurviving}
 use Rattle.journal.specs.Results.{statusVector, UndoResult, result}
-use Rattle.rules.specs.Arrays.{Ready, endsOf}
+use Rattle.arrays.specs.Arrays.{Ready, endsOf}
 
 -- a fate for each transaction number: 1 surviving, 2 undone, 0 neither
 abbrev pub Fates : List ℕ → Type 0

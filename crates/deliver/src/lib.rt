@@ -72,7 +72,7 @@ pub fn deliver(
         return Undone::Refused(Reason::Capacity);
     }
     repair::copy(journal, n, keys, fates, &ranks, out);
-    repair::replay(journal, n, fates, table);
-    repair::publish(fates, status);
+    replay::replay(journal, n, fates, table);
+    replay::publish(fates, status);
     Undone::Done(totals(ends, fates, bytes))
 }

@@ -7,7 +7,7 @@ use Rattle.format.specs.declared.Record.{Record}
 use Rattle.journal.specs.Journal.{history}
 use Rattle.journal.specs.Refusals.{RecordCounts}
 use Rattle.journal.specs.Orders.{Order, inTurn, countsOrder, newOrder}
-use Rattle.rules.specs.Arrays.{Linked, endsOf, writesOf, readsOf}
+use Rattle.arrays.specs.Arrays.{Linked, endsOf, writesOf, readsOf}
 
 -- append after check: 15, then the new record
 unfoldable pub entryOrder : List ℕ → RecordCounts → Record → Order

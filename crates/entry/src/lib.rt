@@ -7,7 +7,7 @@ ghost use Rattle.journal.specs.Journal.{count, items, opOf, whole};
 ghost use Rattle.journal.specs.Refusals.{malformed, mismatched, noRoom, sameCounts, wrongCounts};
 ghost use Rattle.journal.specs.Orders.{newOrder, decide};
 ghost use Rattle.journal.specs.Calls as calls;
-ghost use Rattle.rules.specs.Arrays.{Ready, NoBlindTo};
+ghost use Rattle.arrays.specs.Arrays.{Ready, NoBlindTo};
 ghost use Rattle.rules.specs.Answers.{verdictOf};
 ghost use Rattle.counts.specs.Answers.{recordCountsOf};
 ghost use Rattle.entry.specs.Answers.{planOf};

@@ -25,14 +25,14 @@ use Rattle.fields.specs.declared.Headed.{Headed}
 use Rattle.fields.specs.declared.Headed.the-variants as headed
 use Rattle.fields.specs.Answers.{Size, sizeOf, headerOf, Opened}
 use Rattle.fields.proofs.HeadLaws.{header-parts, header-opened}
+use Rattle.arrays.specs.Arrays.{State, Ready, endsOf}
+use Rattle.arrays.proofs.ArraysLaws.{ends-start, length-ends}
 use Rattle.rules.specs.declared.Verdict.{Verdict}
 use Rattle.rules.specs.declared.Verdict.the-variants as verdict
 use Rattle.rules.specs.Answers.{verdictOf, refusalOf}
-use Rattle.rules.specs.Arrays.{State, Ready, endsOf}
-use Rattle.rules.proofs.ArraysLaws.{ends-start, length-ends}
-use Rattle.validate.specs.Answers.{activeIn}
-use Rattle.validate.proofs.Pass.{state-start, ready-at}
-use Rattle.validate.proofs.Final.{active-at}
+use Rattle.scan.proofs.Pass.{state-start, ready-at}
+use Rattle.settle.specs.Active.{activeIn}
+use Rattle.settle.proofs.Final.{active-at}
 use Rattle.validate.proofs.Whole.{check-clear, checked-ready}
 use Rattle.examine.specs.Stages.{unknownIn, admitOrder, examinedOrder, endedOrder, unsettledOrder, Examined, ExaminedIf}
 

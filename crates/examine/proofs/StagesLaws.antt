@@ -9,7 +9,7 @@ use lib.ListN.{length, getD}
 use borrow.Author.Tests.{eq-eqb, ne-eqb}
 use Rattle.journal.specs.Orders.{Refusal, tryEach, activeOrder, knownOrder, decide}
 use Rattle.journal.proofs.OrdersLaws.{tried-start, tried-passed, tried-refused}
-use Rattle.validate.specs.Answers.{activeIn}
+use Rattle.settle.specs.Active.{activeIn}
 use Rattle.lists.specs.Tables.{coded}
 use Rattle.examine.specs.Stages.{unknownIn}
 

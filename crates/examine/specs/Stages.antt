@@ -13,7 +13,7 @@ use Rattle.journal.specs.Orders.{Order, inTurn, openOrder, tableOrder, recordsO
 use Rattle.journal.specs.Orders.{checkOrder, decide}
 use Rattle.fields.specs.declared.Headed.{Headed}
 use Rattle.fields.specs.declared.Headed.the-variants as headed
-use Rattle.rules.specs.Arrays.{Ready, endsOf}
+use Rattle.arrays.specs.Arrays.{Ready, endsOf}
 
 -- 12 from the ends: s names a transaction without a commit
 unfoldable pub unknownIn : List ℕ → ℕ → Bool

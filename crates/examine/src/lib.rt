@@ -8,10 +8,11 @@ ghost use Rattle.journal.specs.Journal.{history};
 ghost use Rattle.journal.specs.Orders.{activeOrder, knownOrder, decide};
 ghost use Rattle.journal.specs.Calls.{answered};
 ghost use Rattle.fields.specs.Answers.{sizeOf, headerOf, Opened};
+ghost use Rattle.arrays.specs.Arrays.{endsOf};
 ghost use Rattle.rules.specs.Answers.{verdictOf};
-ghost use Rattle.rules.specs.Arrays.{endsOf};
-ghost use Rattle.validate.specs.Answers.{activeIn};
+ghost use Rattle.settle.specs.Active.{activeIn};
 ghost use Rattle.examine.specs.Stages.{unknownIn, admitOrder, examinedOrder, endedOrder, unsettledOrder, ExaminedIf};
+use arrays::code_of;
 use fields::Headed;
 use fields::header;
 use format::ITEM_SLOTS;
@@ -22,9 +23,8 @@ use format::TRANSACTIONS_END;
 use format::TransactionId;
 use journal::Reason;
 use rules::Verdict;
-use rules::code_of;
-use validate::is_active;
-use validate::records;
+use scan::records;
+use settle::is_active;
 use validate::verify;
 
 // Refusal 11: the lowest transaction that is active.

@@ -25,8 +25,8 @@ use Rattle.journal.specs.Calls.{appliedTable}
 use Rattle.journal.proofs.Records.{history-zero, history-suc}
 use Rattle.journal.proofs.Unrefused.{formed-cases, opOf-read, opOf-write, opOf-commit, opOf-abort}
 use Rattle.journal.proofs.Appending.{length-appliedTable, amount-appliedTable}
-use Rattle.rules.specs.Arrays.{Ready}
-use Rattle.rules.proofs.Found.{passed-right}
+use Rattle.arrays.specs.Arrays.{Ready}
+use Rattle.arrays.proofs.Found.{passed-right}
 use Rattle.extend.specs.Entering.{restoredBy}
 
 -- a table from its amounts

@@ -11,7 +11,7 @@ use Rattle.format.specs.Limits.{recordBytes, journalBytes, maxRecords}
 use Rattle.model.specs.History.{Amount}
 use Rattle.journal.specs.Journal.{count, items, txIn}
 use Rattle.journal.specs.Refusals.{malformed}
-use Rattle.rules.specs.Arrays.{Ready}
+use Rattle.arrays.specs.Arrays.{Ready}
 use Rattle.counts.specs.declared.Counts.{Counts}
 use Rattle.counts.specs.Answers.{Few}
 

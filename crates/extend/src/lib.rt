@@ -10,7 +10,7 @@ ghost use Rattle.model.specs.History.{abort, tagIn, ofTx};
 ghost use Rattle.journal.specs.Journal.{count, items, opOf, history};
 ghost use Rattle.journal.specs.Refusals.{malformed};
 ghost use Rattle.journal.specs.Calls as calls;
-ghost use Rattle.rules.specs.Arrays.{Ready};
+ghost use Rattle.arrays.specs.Arrays.{Ready};
 ghost use Rattle.counts.specs.Answers.{recordCountsOf};
 ghost use Rattle.extend.specs.Entering.{restoredBy, Admitted};
 use counts::Counts;

@@ -2,10 +2,10 @@
 ghost use mathlib.Core.Path.{_≡_};
 ghost use lib.ListN.{length};
 ghost use Rattle.files.specs.Loads.{Loads};
+use day_report::Printed;
+use decode::FILE_BYTES;
 use libc::STDERR_FILENO;
 use libc::STDOUT_FILENO;
-use report::FILE_BYTES;
-use report::Printed;
 use report::REPORT_BYTES;
 
 // How many bytes of a file were read; or it is there and cannot be read.
@@ -75,7 +75,7 @@ fn buffer() -> [u8; FILE_BYTES]
 // Prints the report on these bytes; its buffer has always room.
 fn print(journal: &[u8], table: &[u8], bad: &[u8]) {
     let mut out = [0u8; REPORT_BYTES];
-    let printed = report::report_files(journal, table, bad, &mut out);
+    let printed = day_report::report_files(journal, table, bad, &mut out);
     let Printed::Bytes(n) = printed else {
         return;
     };

@@ -305,8 +305,8 @@ countIf-none f i zero e = countIf-zero f i
 countIf-none f i (suc n) e = countIf-no f i n (e i) ∙ countIf-none f (suc i) n e
 
 -- one more, if the code is v
-pub raised-yes : (c e v : ℕ) → e ≡ v → c + 1 ≡ cond (eqb e v) (c + 1) c
-raised-yes c e v h = rw (eq-eqb e v h)
+pub one-more-yes : (c e v : ℕ) → e ≡ v → c + 1 ≡ cond (eqb e v) (c + 1) c
+one-more-yes c e v h = rw (eq-eqb e v h)
 
-pub raised-no : (c e v : ℕ) → (e ≡ v → ⊥) → c ≡ cond (eqb e v) (c + 1) c
-raised-no c e v h = rw (ne-eqb e v h)
+pub one-more-no : (c e v : ℕ) → (e ≡ v → ⊥) → c ≡ cond (eqb e v) (c + 1) c
+one-more-no c e v h = rw (ne-eqb e v h)

@@ -38,7 +38,7 @@ pub fn set_code(codes: &mut [u8], i: usize, v: u8)
 }
 
 // One more, if the code is v.
-pub fn raised(count: u32, code: u8, v: u8) -> u32
+pub fn one_more(count: u32, code: u8, v: u8) -> u32
     requires { ⌜ count < 4294967295 ⌝ }
     ensures { λ r. ⌜ r ≡ cond (eqb code v) (count + 1) count ⌝ }
 {

@@ -1,4 +1,3 @@
 pub mod RankLaws
 pub mod CopyLaws
-pub mod ReplayLaws
 pub mod Repaired

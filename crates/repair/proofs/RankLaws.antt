@@ -151,9 +151,9 @@ module _ (b fates : List ℕ) where
   rank-start = sym (rank-zero (coded 1 fates) b)
 
   -- one record more
-  pub next-raised : (n surviving v t m : ℕ) → t ≡ txIn (recordAt b (n + 1)) → v ≡ getD fates t 0 → m ≡ cond (eqb v 1) (surviving + 1) surviving → m ≡ cond (coded 1 fates (txIn (recordAt b (n + 1)))) (surviving + 1) surviving
+  pub next-one-more : (n surviving v t m : ℕ) → t ≡ txIn (recordAt b (n + 1)) → v ≡ getD fates t 0 → m ≡ cond (eqb v 1) (surviving + 1) surviving → m ≡ cond (coded 1 fates (txIn (recordAt b (n + 1)))) (surviving + 1) surviving
   unfolding coded
-  next-raised n surviving v t m a c e = e ∙ rw (c, a)
+  next-one-more n surviving v t m a c e = e ∙ rw (c, a)
 
   module _ (i surviving m : ℕ) (q : surviving ≡ rank (coded 1 fates) b i) (e : m ≡ cond (coded 1 fates (txIn (recordAt b (i + 1)))) (surviving + 1) surviving) where
     pub surviving-step : m ≡ rank (coded 1 fates) b (i + 1)

@@ -1,4 +1,4 @@
--- The copy, its size and the table left are those of the transactions with code 1.
+-- The copy and its size are those of the transactions with code 1.
 -- Assumes nothing.
 use mathlib.Core.Path.{_≡_, refl, sym, _∙_, ap}
 use mathlib.Core.Bool.{true}
@@ -9,20 +9,17 @@ use lib.ListN.{length, getD}
 use Rattle.lists.specs.Tables.{coded}
 use Rattle.lists.proofs.BoolLaws.{byCases}
 use Rattle.format.specs.Layout.{recordAt}
-use Rattle.model.specs.History.{History, Amount, laterOf, nextIn}
+use Rattle.model.specs.History.{History, laterOf, nextIn}
 use Rattle.model.specs.Undo.{only, renumber}
 use Rattle.model.proofs.Extension.{first-tag}
-use Rattle.journal.specs.Inputs.{inputsOf}
 use Rattle.journal.specs.Journal.{count, items, txIn, records, history, whole}
 use Rattle.journal.specs.Copy.{unchanged, copiedBy, copied, recordsSurviving, journalOf, copySurviving}
-use Rattle.journal.specs.Results.{openingAt, tableSurviving}
 use Rattle.journal.proofs.Records.{length-history}
 use Rattle.journal.proofs.Encoded.{length-journalOf}
 use Rattle.journal.proofs.Unrefused.{chained-next, history-numbered}
-use Rattle.rules.specs.Arrays.{Ready}
-use Rattle.rules.proofs.Found.{passed-right}
+use Rattle.arrays.specs.Arrays.{Ready}
+use Rattle.arrays.proofs.Found.{passed-right}
 use Rattle.repair.specs.Copying.{rank, Ranked, moved, movedAll, copyBytes, copyWith}
-use Rattle.repair.specs.Replaying.{leftAfter}
 use Rattle.repair.proofs.RankLaws.{rank-surviving, next-rank}
 use Rattle.repair.proofs.CopyLaws.{length-moved}
 
@@ -75,7 +72,3 @@ module _ (b : List ℕ) (n : ℕ) (k : Ready b n) (c : n ≡ count b) where
     pub copy-size : length (copySurviving unchanged (coded 1 fates) b) ≡ 20 * (getD ranks n 0 + 1)
     unfolding copySurviving
     copy-size = length-journalOf (items b) (recordsSurviving unchanged (coded 1 fates) b) ∙ rw rank-all
-
-  pub table-surviving : (fates : List ℕ) (t : List Amount) → leftAfter (coded 1 fates) (history b n) t ≡ tableSurviving (coded 1 fates) (inputsOf b t)
-  unfolding leftAfter tableSurviving openingAt
-  table-surviving fates t = rw whole-is

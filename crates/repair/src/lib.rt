@@ -1,32 +1,25 @@
-// What take-back leaves: the counts, the copy, the table and the statuses, from the fate of each transaction.
+// The copy that take-back writes, by the ranks of the kept records, and how many transactions have a fate.
 ghost use mathlib.Core.Path.{_≡_};
 ghost use mathlib.Core.Bool.{cond};
-ghost use Prim.Native.Nat.{_+_, _*_, _≤_, _<_};
-ghost use lib.ListN.{length, getD, set};
+ghost use Prim.Native.Nat.{_+_, _≤_, _<_};
+ghost use lib.ListN.{length, getD};
 ghost use Rattle.lists.specs.Tables.{countIf, store, stepped, coded};
 ghost use Rattle.format.specs.Layout.{recordAt};
-ghost use Rattle.format.specs.Limits.{journalBytes, maxRecords, maxTransaction, transactionSlots, statusBytes};
-ghost use Rattle.journal.specs.Journal.{opOf, history};
-ghost use Rattle.rules.specs.Arrays.{Ready};
+ghost use Rattle.format.specs.Limits.{journalBytes, maxRecords, maxTransaction};
 ghost use Rattle.repair.specs.Copying.{Ranked, copyWith, copyStep};
-ghost use Rattle.repair.specs.Replaying.{leftAfter, openedAt, tableWrite, tableAfter, seenAfter, replayStep};
-use format::ITEM_SLOTS;
+use arrays::code_of;
 use format::Key;
 use format::Lsn;
 use format::MAX_TRANSACTION;
 use format::RECORD_BYTES;
 use format::RECORD_SLOTS;
 use format::Record;
-use format::TRANSACTION_SLOTS;
 use format::TransactionId;
 use format::put_record;
 use format::record_at;
 use format::transaction_at;
-use lists::code_at;
 use lists::number_at;
-use lists::raised;
-use lists::set_code;
-use rules::code_of;
+use lists::one_more;
 
 // How many transactions have the code v.
 pub fn number_of(codes: &[u8], v: u8) -> u32
@@ -36,7 +29,7 @@ pub fn number_of(codes: &[u8], v: u8) -> u32
     let mut s: u16 = 0;
     while s < MAX_TRANSACTION {
         s += 1;
-        count = raised(count, code_of(codes, TransactionId(s)), v);
+        count = one_more(count, code_of(codes, TransactionId(s)), v);
     }
     count
 }
@@ -49,7 +42,7 @@ fn next_rank(journal: &[u8], n: u32, fates: &[u8], surviving: u32) -> u32
         (surviving + 1) surviving ⌝ }
 {
     let s = transaction_at(journal, Lsn(n + 1));
-    raised(surviving, code_of(fates, s), 1)
+    one_more(surviving, code_of(fates, s), 1)
 }
 
 // How many of the first i records are kept, for each i up to n.
@@ -137,98 +130,4 @@ pub fn copy(journal: &[u8], n: u32, keys: u32, fates: &[u8], ranks: &[u32], out:
     };
     put_record(&mut out[0..RECORD_BYTES], head);
     copy_records(journal, n, fates, ranks, out);
-}
-
-// An amount in the table.
-fn set_amount(table: &mut [i32], x: Key, v: i32)
-    ensures { λ _. ⌜ now (table .exit) ≡ set (now (table .entry)) (x .0) v ⌝ }
-{
-    let at = x.0 as usize;
-    if at < table.len() {
-        table[at] = v;
-    }
-}
-
-// The opening amount of item x, at its first write.
-fn open_item(seen: &[u8], x: Key, before: i32, table: &mut [i32])
-    ensures { λ _. ⌜ now (table .exit) ≡ openedAt (now (seen .entry)) (x .0) before (now (table .entry)) ⌝ }
-{
-    let flag = code_at(seen, x.0 as usize);
-    if flag == 0 {
-        set_amount(table, x, before);
-    }
-}
-
-// A write of item x by s.
-fn replay_write(
-    fates: &[u8],
-    seen: &[u8],
-    s: TransactionId,
-    x: Key,
-    before: i32,
-    after: i32,
-    table: &mut [i32],
-)
-    ensures { λ _. ⌜ now (table .exit)
-        ≡ tableWrite (now (fates .entry)) (now (seen .entry)) (s .0) (x .0) before after (now (table .entry)) ⌝ }
-{
-    open_item(seen, x, before, table);
-    let fate = code_of(fates, s);
-    if fate == 1 {
-        set_amount(table, x, after);
-    }
-}
-
-// Record n + 1 in the table.
-fn replay_record(journal: &[u8], n: u32, fates: &[u8], seen: &mut [u8], table: &mut [i32])
-    requires { ⌜ (journalBytes (n + 1) ≤ length (now journal)) × (n < maxRecords) ⌝ }
-    ensures { λ _. ⌜ (now (seen .exit) ≡ seenAfter (opOf (n + 1) (recordAt (now (journal .entry)) (n + 1))) (now (seen .entry)))
-        × (now (table .exit)
-        ≡ tableAfter (now (fates .entry)) (opOf (n + 1) (recordAt (now (journal .entry)) (n + 1))) (now (seen .entry))
-        (now (table .entry))) ⌝ }
-{
-    let r = record_at(journal, Lsn(n + 1));
-    let kind = r.kind;
-    match kind {
-        2 => {
-            replay_write(fates, seen, r.transaction, r.item, r.before, r.after, table);
-            set_code(seen, r.item.0 as usize, 1);
-        }
-        _ => {}
-    }
-}
-
-// Records 1 to n in the table, from any table and any marks of the items written until then.
-pub fn replay_records(journal: &[u8], n: u32, fates: &[u8], seen: &mut [u8], table: &mut [i32])
-    requires { ⌜ (journalBytes n ≤ length (now journal)) × (n ≤ maxRecords) ⌝ }
-    ensures { λ _. ⌜ (now (seen .exit), now (table .exit))
-        ≡ stepped (replayStep (now (journal .entry)) (now (fates .entry))) n (now (seen .entry), now (table .entry)) ⌝ }
-{
-    let mut i = 0;
-    while i < n {
-        replay_record(journal, i, fates, seen, table);
-        i += 1;
-    }
-}
-
-// The table with the opening amount of each item, then the writes of surviving transactions in order.
-pub fn replay(journal: &[u8], n: u32, fates: &[u8], table: &mut [i32])
-    requires { ⌜ Ready (now journal) n ⌝ }
-    ensures { λ _. ⌜ now (table .exit)
-        ≡ leftAfter (coded 1 (now (fates .entry))) (history (now (journal .entry)) n) (now (table .entry)) ⌝ }
-{
-    let mut seen = [0u8; ITEM_SLOTS];
-    replay_records(journal, n, fates, &mut seen, table);
-}
-
-// The fates into the status list.
-pub fn publish(fates: &[u8], status: &mut [u8])
-    requires { ⌜ (length (now fates) ≡ transactionSlots) × (length (now status) ≡ statusBytes) ⌝ }
-    ensures { λ _. ⌜ now (status .exit) ≡ now (fates .entry) ⌝ }
-{
-    let mut s = 0;
-    while s < TRANSACTION_SLOTS {
-        status[s] = fates[s];
-        s += 1;
-    }
 }

@@ -1,3 +1,1 @@
-pub mod OutputLaws
-pub mod PrintedLaws
 pub mod ReportLaws

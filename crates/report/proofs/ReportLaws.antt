@@ -1,17 +1,14 @@
 -- What an accepted take-back says of its input, and the report by what take-back left.
 -- Assumes nothing.
-use mathlib.Core.Path.{_≡_, refl, sym, ap, _∙_}
+use mathlib.Core.Path.{_≡_, refl, ap}
 use mathlib.Core.List.{List}
-use Prim.Native.Nat.{ℕ, _-_, _/_, _≤_}
-use native.Mathlib.Nat.{sub-zero}
+use Prim.Native.Nat.{ℕ, _≤_}
 use native.Mathlib.Omega.{arith}
-use lib.ListN.{length, take, drop, replicate}
+use lib.ListN.{length, take, drop}
 use lib.Seq.{take-at}
 use borrow.Author.Tests.{ltb-false}
-use Rattle.lists.specs.Tables.{store}
 use Rattle.lists.proofs.TablesLaws.{store-front}
-use Rattle.model.specs.History.{Amount}
-use Rattle.journal.specs.Inputs.{Inputs, inputsOf}
+use Rattle.journal.specs.Inputs.{Inputs}
 use Rattle.journal.specs.Journal.{count}
 use Rattle.journal.specs.Refusals.{short}
 use Rattle.journal.specs.Calls.{Answer, refused, accepted, UndoTotals, UndoResult, undo}
@@ -26,21 +23,10 @@ use Rattle.text.specs.Puts.{Fits, Put}
 use Rattle.lines.specs.AnswerLines.{lines}
 use Rattle.lines.specs.Counting.{recordsIn}
 use Rattle.lines.proofs.LengthLaws.{length-lines}
-use Rattle.report.specs.Output.{linesOf, amounts, transactions, undoFiles, reportOf}
-use Rattle.report.specs.Certified.{Reports, ReportsFiles}
-use Rattle.report.proofs.OutputLaws.{length-amounts, length-transactions}
+use Rattle.report.specs.Output.{linesOf}
+use Rattle.report.specs.Certified.{Reports}
 
--- ---- a list at the front of a longer one
-
-front : {A : Type 0} {v m : List A} {n k : ℕ} (l : List A) → length v ≡ k → n ≡ k → m ≡ store 0 v l → take (n - 0) m ≡ v
-front {v = v} {n = n} l h e g = rw (g, sub-zero, store-front) (take-at v _ n (h ∙ sym e))
-
-pub amounts-front : (file : List ℕ) (l : List Amount) {m : List Amount} {n : ℕ} → n ≡ length file / 4 → m ≡ store 0 (amounts file) l → take (n - 0) m ≡ amounts file
-amounts-front file l e g = front l (length-amounts file) e g
-
-pub transactions-front : (file l : List ℕ) {m : List ℕ} {n : ℕ} → n ≡ length file / 2 → m ≡ store 0 (transactions file) l → take (n - 0) m ≡ transactions file
-transactions-front file l e g = front l (length-transactions file) e g
-
+-- what is written at the front
 put-front : {v l m : List ℕ} {n : ℕ} → Put 0 v l m n → take n m ≡ v
 put-front {v} {l} {n = n} p = rw (p .holds, store-front) (take-at v (drop (length v) l) n (omega (arith, p .size)))
 
@@ -90,17 +76,6 @@ module _ (d : Inputs) (bad status out : List ℕ) {u : UndoResult} (kept : UndoP
     pub reported-put : {l m : List ℕ} {r : ℕ} → u ≡ undo d bad status out → Put 0 (lines n recordsIn (d .table) (u .table) (u .status) (u .answer)) l m r
         → (Put 0 (linesOf d (undo d bad status out)) l m r) × Reports d bad status out (take r m)
     reported-put is p = let text = rw (reported n en) at p in (rw is at text, record { result = u; promise = kept; lines = put-front text })
-
--- ---- the report on the files, by their entries
-
-module _ (journal tableFile badFile : List ℕ) {old : List Amount} {bad : List ℕ} (eo : old ≡ amounts tableFile) (eb : bad ≡ transactions badFile) where
-  pub report-printed : {l out : List ℕ} {end : ℕ} → Put 0 (linesOf (inputsOf journal old) (undo (inputsOf journal old) bad (replicate 1025 0) (replicate 64020 0))) l out end
-      → Put 0 (reportOf journal tableFile badFile) l out end
-  unfolding reportOf undoFiles
-  report-printed p = rw (eo, eb) at p
-
-  pub reports-files : {text : List ℕ} → Reports (inputsOf journal old) bad (replicate 1025 0) (replicate 64020 0) text → ReportsFiles journal tableFile badFile text
-  reports-files r = rw (eo, eb) at r
 
 -- written, it ends in the room for any report
 pub length-put : {v l m : List ℕ} {n : ℕ} {d : Inputs} {bad status out : List ℕ} → Put 0 v l m n → Reports d bad status out (take n m) → n ≤ 100000

@@ -21,12 +21,12 @@ use Rattle.model.proofs.Ends.{write-to}
 use Rattle.model.proofs.Opening.{Passing}
 use Rattle.journal.specs.Journal.{txIn, opOf, history}
 use Rattle.journal.proofs.Records.{by-kind, txOf-opOf}
-use Rattle.rules.specs.Recent.{endCode, lastWrite, baseWrite}
-use Rattle.rules.specs.Arrays.{Ready, endsOf, writesOf, basesOf}
+use Rattle.arrays.specs.Recent.{endCode, lastWrite, baseWrite}
+use Rattle.arrays.specs.Arrays.{Ready, endsOf, writesOf, basesOf}
+use Rattle.arrays.proofs.Found.{base-found, found-none, found-bound, found-some, passing-history}
+use Rattle.arrays.proofs.ArraysLaws.{ends-array, bases-array}
+use Rattle.arrays.proofs.WriterLaws.{last-some, last-range}
 use Rattle.rules.proofs.Recent.{own-write, base-first, standing-last}
-use Rattle.rules.proofs.Found.{base-found, found-none, found-bound, found-some, passing-history}
-use Rattle.rules.proofs.ArraysLaws.{ends-array, bases-array}
-use Rattle.rules.proofs.ReadersLaws.{last-some, last-range}
 
 some-same : {a b : Op} → some a ≡ some b → a ≡ b
 some-same h = cc

@@ -1,8 +1,5 @@
 pub mod Recent
-pub mod Found
-pub mod ArraysLaws
 pub mod Walk
 pub mod ReadersLaws
 pub mod AmountLaws
 pub mod RuleLaws
-pub mod NoteLaws

@@ -2,7 +2,7 @@
 -- writer and the reads since its last write matter.
 -- Assumes nothing.
 use mathlib.Core.Path.{_≡_, refl, sym, _∙_, ap}
-use mathlib.Core.Bool.{Bool, false≢true, true, false, cond, not, _&&_, _||_, and-false, Bool·not-not}
+use mathlib.Core.Bool.{Bool, false≢true, true, false, cond, not, _&&_, _||_, and-false}
 use mathlib.Core.List.{[], _∷_}
 use mathlib.Core.Option.{Option, none, some}
 use Prim.Native.Nat.{ℕ}
@@ -12,26 +12,18 @@ use borrow.Author.Tests.{eqb-true, eq-eqb, not-false}
 use Rattle.lists.specs.Search.{any, orElse, first}
 use Rattle.lists.proofs.BoolLaws.{byCases, or-left, or-right, or-cases, and-left, and-right, or-false-right, and-both, same-truth, not-both}
 use Rattle.lists.proofs.SearchLaws.{any-mono, any-some, any-latest, latest-passes, first-none, first-some}
-use Rattle.model.specs.History.{Op, History, Amount, read, write, commit, abort, other, txOf, beforeOf, afterOf, ofTx, readOf, writeOf, accessOf, writeTo, accessTo, ended, beforeIn, current, initial, standing, committed, aborted}
+use Rattle.model.specs.History.{Op, History, Amount, read, write, commit, abort, other, txOf, beforeOf, afterOf, ofTx, readOf, writeOf, accessOf, writeTo, accessTo, ended, beforeIn, current, initial, standing}
 use Rattle.model.specs.Rules.{byOther}
-use Rattle.model.proofs.Ends.{EndsLast, read-of, write-of, access-of, access-to, read-access, write-touch, not-committed, not-aborted}
+use Rattle.model.proofs.Ends.{read-of, write-of, access-of, access-to, read-access, write-touch}
 use Rattle.model.proofs.Legal.{NoBlindWrites}
 use Rattle.model.proofs.Strict.{neq-sym, notConflicting-any}
 use Rattle.model.proofs.Opening.{Passing, step}
-use Rattle.rules.specs.Recent.{endCode, otherActive, lastWrite, byTx, byOtherActive, baseWrite, readsSince, readByOther, standingOf}
+use Rattle.arrays.specs.Recent.{endCode, otherActive, lastWrite, byTx, byOtherActive, baseWrite, readsSince}
+use Rattle.arrays.proofs.EndCodes.{ended-code, active-code}
+use Rattle.rules.specs.Answers.{readByOther}
+use Rattle.rules.specs.Standing.{standingOf}
 
 -- ---- ends
-
-pub ended-code : (p : History) (s : ℕ) → ended p s ≡ not (eqb (endCode p s) 0)
-ended-code [] s = refl
-ended-code (read t v y ∷ p) s = ended-code p s
-ended-code (write t v y b a ∷ p) s = ended-code p s
-ended-code (commit t v ∷ p) s = byCases (eqb s v) (λ e. rw e) (λ e. rw e (ended-code p s))
-ended-code (abort t v ∷ p) s = byCases (eqb s v) (λ e. rw e) (λ e. rw e (ended-code p s))
-ended-code (other t v ∷ p) s = ended-code p s
-
-pub active-code : (p : History) (s : ℕ) → not (ended p s) ≡ eqb (endCode p s) 0
-active-code p s = ap not (ended-code p s) ∙ Bool·not-not (eqb (endCode p s) 0)
 
 -- no end: no abort
 ended-no-abort : (p : History) (s : ℕ) → ended p s ≡ false → eqb (endCode p s) 2 ≡ false
@@ -246,27 +238,3 @@ current-last d x (other t u ∷ p) (step k l) e = current-last d x p k e
 
 pub standing-last : (d : Amount) (x : ℕ) (p : History) → Passing p → {w : Op} → lastWrite p x ≡ some w → standing d p x ≡ standingOf p x (lastWrite p x) (pos 0)
 standing-last d x p k {w} e = current-last (initial d p x) x p k e ∙ rw (e, base-first x p k e)
-
--- ---- ends, where no transaction goes on after its end
-
-pub code-committed : (s : ℕ) (p : History) → EndsLast p → eqb (endCode p s) 1 ≡ committed p s
-code-committed s [] c = refl
-code-committed s (read t v x ∷ p) c = code-committed s p (c .0)
-code-committed s (write t v x b a ∷ p) c = code-committed s p (c .0)
-code-committed s (commit t v ∷ p) c = byCases (eqb s v) (λ e. rw e) (λ e. rw e (code-committed s p (c .0)))
-code-committed s (abort t v ∷ p) c =
-    byCases (eqb s v)
-    (λ e. rw (e, not-committed s p (rw (eqb-true s v e) (c .1))))
-    (λ e. rw e (code-committed s p (c .0)))
-code-committed s (other t v ∷ p) c = code-committed s p (c .0)
-
-pub code-aborted : (s : ℕ) (p : History) → EndsLast p → eqb (endCode p s) 2 ≡ aborted p s
-code-aborted s [] c = refl
-code-aborted s (read t v x ∷ p) c = code-aborted s p (c .0)
-code-aborted s (write t v x b a ∷ p) c = code-aborted s p (c .0)
-code-aborted s (commit t v ∷ p) c =
-    byCases (eqb s v)
-    (λ e. rw (e, not-aborted s p (rw (eqb-true s v e) (c .1))))
-    (λ e. rw e (code-aborted s p (c .0)))
-code-aborted s (abort t v ∷ p) c = byCases (eqb s v) (λ e. rw e) (λ e. rw e (code-aborted s p (c .0)))
-code-aborted s (other t v ∷ p) c = code-aborted s p (c .0)

@@ -24,15 +24,18 @@ use Rattle.journal.specs.Orders.{Refusal, accessOrder, ruleOrder, decide}
 use Rattle.journal.proofs.Records.{txOf-opOf}
 use Rattle.journal.proofs.Unrefused.{opOf-read, opOf-write}
 use Rattle.journal.proofs.OrdersLaws.{orElse-none, orElse-assoc, decide-try, decide-turn, decide-over}
-use Rattle.fields.proofs.Fields.{formed-range, formed-item-read, formed-item-write}
-use Rattle.rules.specs.declared.Touched.{Touched}
-use Rattle.rules.specs.Recent.{endCode, lastWrite, byOtherActive, unlikeStanding}
-use Rattle.rules.specs.Arrays.{Ready, NoBlindTo, endsOf, writesOf}
-use Rattle.rules.specs.Answers.{writerOf, readersOf}
-use Rattle.rules.proofs.Recent.{ended-code, open-reads, other-writer, other-access}
-use Rattle.rules.proofs.Found.{passing-history, noBlind-history}
-use Rattle.rules.proofs.ArraysLaws.{ends-array}
-use Rattle.rules.proofs.ReadersLaws.{last-none, last-some}
+use Rattle.fields.proofs.Fields.{formed-range}
+use Rattle.arrays.specs.declared.Touched.{Touched}
+use Rattle.arrays.specs.Recent.{endCode, lastWrite, byOtherActive}
+use Rattle.arrays.specs.Arrays.{Ready, NoBlindTo, endsOf, writesOf}
+use Rattle.arrays.specs.Writers.{writerOf}
+use Rattle.arrays.proofs.EndCodes.{ended-code}
+use Rattle.arrays.proofs.Found.{passing-history, noBlind-history}
+use Rattle.arrays.proofs.ArraysLaws.{ends-array}
+use Rattle.arrays.proofs.WriterLaws.{last-none, last-some}
+use Rattle.rules.specs.Standing.{unlikeStanding}
+use Rattle.rules.specs.Answers.{readersOf}
+use Rattle.rules.proofs.Recent.{open-reads, other-writer, other-access}
 
 -- what is returned for number k at record i
 abbrev pub at : ℕ → ℕ → Option Refusal
@@ -45,13 +48,10 @@ rule-parts p i o = simp (decide-turn, decide-over, decide-try, orElse-none, orEl
 
 -- ---- rules 6 to 9
 
+pub no-end : (m : List ℕ) (s end : ℕ) → end ≡ getD m s 0 → end ≡ 0 → getD m s 0 ≡ 0
+no-end m s end q z = sym q ∙ z
+
 module _ (b : List ℕ) (n : ℕ) (r : Record) (k : Ready b n) (f : malformed (items b) r ≡ false) where
-  pub item-read : r .kind ≡ 1 → r .item .0 < 1024
-  item-read e = let a = formed-item-read (items b) r f e in omega (arith, k .items)
-
-  pub item-write : r .kind ≡ 2 → r .item .0 < 1024
-  item-write e = let a = formed-item-write (items b) r f e in omega (arith, k .items)
-
   pub tx-in : (m : List ℕ) → m ≡ endsOf (history b n) → txIn r < length m
   tx-in m e = let a = formed-range (items b) r f in rw (e, ends-array (history b n) .size) (omega arith)
 

@@ -15,8 +15,8 @@ use Rattle.format.specs.Layout.{recordAt}
 use Rattle.model.specs.History.{Op, History, Tag, read, write, commit, abort, other, txOf}
 use Rattle.journal.specs.Journal.{txIn, opOf, history}
 use Rattle.journal.proofs.Unrefused.{opOf-read}
-use Rattle.rules.specs.Recent.{readsSince, newest}
-use Rattle.rules.specs.Arrays.{readBefore}
+use Rattle.arrays.specs.Recent.{readsSince, newest}
+use Rattle.arrays.specs.Arrays.{readBefore}
 
 -- record k is a read of item x
 pub record ReadAt (b : List ℕ) (x k : ℕ) : Type 0 where

@@ -1,3 +1,2 @@
-pub mod Recent
-pub mod Arrays
+pub mod Standing
 pub mod Answers

@@ -16,10 +16,10 @@ use Rattle.model.proofs.Ends.{OfTx, EndsLast, commit-of}
 use Rattle.model.proofs.Opening.{passing-ends}
 use Rattle.journal.specs.Journal.{txIn, opOf, history}
 use Rattle.journal.proofs.Records.{txOf-opOf}
-use Rattle.rules.specs.Arrays.{Ready, endsOf}
-use Rattle.rules.proofs.Found.{passed-range, passing-history}
-use Rattle.rules.proofs.Recent.{code-committed, code-aborted}
-use Rattle.rules.proofs.ArraysLaws.{ends-array}
+use Rattle.arrays.specs.Arrays.{Ready, endsOf}
+use Rattle.arrays.proofs.Found.{passed-range, passing-history}
+use Rattle.arrays.proofs.EndCodes.{code-committed, code-aborted}
+use Rattle.arrays.proofs.ArraysLaws.{ends-array}
 use Rattle.trace.specs.Codes.{coded}
 
 -- ---- a journal whose records passed

@@ -22,10 +22,9 @@ use Rattle.journal.specs.Journal.{items, txIn, opOf, history}
 use Rattle.journal.proofs.Records.{txOf-opOf, history-zero, history-suc}
 use Rattle.journal.proofs.Unrefused.{opOf-read, opOf-write}
 use Rattle.journal.specs.Refusals.{malformed}
-use Rattle.rules.specs.Arrays.{Ready}
-use Rattle.rules.proofs.Found.{Found, nothing, at, latest-found, passed-right, passed-range}
-use Rattle.rules.proofs.RuleLaws.{item-read}
-use Rattle.rules.proofs.ArraysLaws.{by-access}
+use Rattle.arrays.specs.Arrays.{Ready}
+use Rattle.arrays.proofs.Found.{Found, nothing, at, latest-found, passed-right, passed-range}
+use Rattle.arrays.proofs.ArraysLaws.{item-read, by-access}
 use Rattle.trace.specs.Codes.{coded, flagsOf}
 use Rattle.trace.specs.Trace.{writerIn, source, sourcesOf, traced, flagsRead, sourcesWrite, flagsAfter, sourcesAfter, traceStep}
 use Rattle.trace.proofs.CodesLaws.{flags-array, flags-more, flag-member}

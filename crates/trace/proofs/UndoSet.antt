@@ -27,8 +27,8 @@ use Rattle.model.proofs.Extension.{legal-at}
 use Rattle.journal.specs.Journal.{history}
 use Rattle.journal.specs.Results.{statusVector}
 use Rattle.journal.specs.Calls.{statusOf, statuses}
-use Rattle.rules.specs.Arrays.{Ready, endsOf}
-use Rattle.rules.proofs.Found.{passing-history}
+use Rattle.arrays.specs.Arrays.{Ready, endsOf}
+use Rattle.arrays.proofs.Found.{passing-history}
 use Rattle.trace.specs.Codes.{coded, flagsOf, fateOf, fatesOf}
 use Rattle.trace.specs.Trace.{writerIn, source, traced}
 use Rattle.trace.proofs.CodesLaws.{flag-member}

@@ -7,9 +7,10 @@ ghost use Rattle.format.specs.Layout.{recordAt};
 ghost use Rattle.format.specs.Limits.{journalBytes, maxRecords};
 ghost use Rattle.journal.specs.Journal.{opOf, history};
 ghost use Rattle.journal.specs.Calls.{statuses};
-ghost use Rattle.rules.specs.Arrays.{Ready, endsOf};
+ghost use Rattle.arrays.specs.Arrays.{Ready, endsOf};
 ghost use Rattle.trace.specs.Codes.{coded, flagsOf, fateOf, fatesOf};
 ghost use Rattle.trace.specs.Trace.{traced, flagsRead, sourcesWrite, flagsAfter, sourcesAfter, traceStep};
+use arrays::code_of;
 use format::ITEM_SLOTS;
 use format::Key;
 use format::Lsn;
@@ -18,7 +19,6 @@ use format::TRANSACTIONS_END;
 use format::TransactionId;
 use format::record_at;
 use lists::set_code;
-use rules::code_of;
 
 // The code of transaction s; behind the end of the array nothing.
 fn set_code_of(codes: &mut [u8], s: TransactionId, v: u8)

@@ -1,5 +1,1 @@
-pub mod Chain
-pub mod RecordLaws
-pub mod Pass
-pub mod Final
 pub mod Whole

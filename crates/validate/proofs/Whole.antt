@@ -28,13 +28,14 @@ use Rattle.fields.specs.declared.Headed.{Headed}
 use Rattle.fields.specs.declared.Headed.the-variants as headed
 use Rattle.fields.specs.Answers.{sizeOf, headerOf, Opened}
 use Rattle.fields.proofs.HeadLaws.{head-opened, header-parts, header-opened}
+use Rattle.arrays.specs.Arrays.{Ready, NoBlindTo, State}
 use Rattle.rules.specs.declared.Verdict.{Verdict}
 use Rattle.rules.specs.declared.Verdict.the-variants as verdict
 use Rattle.rules.specs.Answers.{verdictOf, refusalOf}
-use Rattle.rules.specs.Arrays.{Ready, NoBlindTo, State}
-use Rattle.validate.specs.Answers.{laterOrder, activeIn}
-use Rattle.validate.proofs.Final.{active-number}
-use Rattle.validate.proofs.Pass.{ready-at}
+use Rattle.scan.proofs.Pass.{ready-at}
+use Rattle.settle.specs.Active.{activeIn}
+use Rattle.settle.proofs.Final.{active-number}
+use Rattle.validate.specs.Answers.{laterOrder}
 
 -- ---- the answer of a refusal: the arrays are then not asked for
 
@@ -88,13 +89,6 @@ module _ (b : List ℕ) (t : List Amount) (v : Verdict) (q : verdictOf v ≡ dec
 
   pub later-settled : (w : Verdict) → v ≡ verdict.Passed → verdictOf w ≡ decide (settledOrder (inputsOf b t)) → verdictOf w ≡ decide (laterOrder (inputsOf b t))
   later-settled w p g = rw (later-parts, p) g
-
--- ---- the arrays once the records passed
-
-module _ (b : List ℕ) (n m : ℕ) (v : Verdict) (o : Opened b n m) (p : v ≡ verdict.Passed) (q : verdictOf v ≡ decide (recordsOrder b)) where
-  pub passed-ready : Ready b n
-  unfolding recordsOrder
-  passed-ready = ready-at b n m n o (rw (o .counted) (sym q ∙ ap verdictOf p)) (omega arith)
 
 -- ---- check
 

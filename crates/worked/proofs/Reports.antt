@@ -1,12 +1,16 @@
 -- The reports worked out by hand are what the definition says, by computation.
 -- Document 01, "The program's day". Assumes nothing.
-use mathlib.Core.Path.{refl}
-use mathlib.Core.List.{flatten}
+use mathlib.Core.Path.{_≡_, refl, _∙_}
+use mathlib.Core.List.{List, [], _∷_, _++_, flatten}
+use Prim.Native.Nat.{ℕ}
+use Rattle.example.specs.Example.{example}
 use Rattle.format.specs.Bytes.{entry, entries}
 use Rattle.text.specs.Decimal.{digits, decimal, decimalZ}
 use Rattle.lines.specs.AnswerLines.{undoneIn, changeIn, lines}
-use Rattle.report.specs.Output.{linesOf, amounts, transactions, undoFiles, reportOf}
-use Rattle.worked.specs.Reports.{Example, PartialEntry, Refusals, Wide, Decimals}
+use Rattle.decode.specs.Files.{amounts, transactions}
+use Rattle.report.specs.Output.{linesOf}
+use Rattle.day_report.specs.Output.{undoFiles, reportOf}
+use Rattle.worked.specs.Reports.{table, bad, Example, PartialEntry, Refusals, Wide, Decimals}
 use Rattle.days.proofs.Computed as calls
 
 -- what a report computes with: `unfolding computed` opens what its own line names
@@ -26,9 +30,21 @@ pub example-report : Example
 unfolding computed
 example-report = refl
 
-pub partial-entry : PartialEntry
+-- a report is by the whole entries of table and list
+by-entries : (journal t u b c : List ℕ) → amounts t ≡ amounts u → transactions b ≡ transactions c → reportOf journal t b ≡ reportOf journal u c
+unfolding reportOf undoFiles
+by-entries journal t u b c et eb = rw (et, eb)
+
+table-cut : amounts (table ++ 7 ∷ 0 ∷ 9 ∷ []) ≡ amounts table
 unfolding computed
-partial-entry = refl
+table-cut = refl
+
+list-cut : transactions (bad ++ 3 ∷ []) ≡ transactions bad
+unfolding computed
+list-cut = refl
+
+pub partial-entry : PartialEntry
+partial-entry = by-entries example _ table _ bad table-cut list-cut ∙ example-report
 
 pub wide : Wide
 unfolding computed

@@ -1,5 +1,5 @@
--- Worked days: each statement of `demands` in ReadsFrom, Undoing, Cut and Refusing on journals that meet its hypotheses by
--- computation, with what it then says in numbers, and what it excludes.
+-- Worked days: each statement of `demands` in ReadsFrom, Undoing, Incremental and Refusing on journals that meet its hypotheses
+-- by computation, with what it then says in numbers, and what it excludes.
 -- Assumes nothing.
 use mathlib.Core.Path.{_≡_, refl, sym, _∙_, ap}
 use mathlib.Core.Bool.{Bool, true, false, _||_, false≢true}

@@ -8,7 +8,7 @@ use Rattle.text.specs.Decimal.{decimal, decimalZ}
 use Rattle.example.specs.Records.{p0, p320, p1180, highest}
 use Rattle.example.specs.Example.{example}
 use Rattle.days.specs.Journals.{extremes}
-use Rattle.report.specs.Output.{reportOf}
+use Rattle.day_report.specs.Output.{reportOf}
 
 -- ---- the example
 

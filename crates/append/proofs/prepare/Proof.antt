@@ -2,7 +2,7 @@
 -- Assumes nothing.
 use mathlib.Core.Path.{_∙_}
 use denote.Ref.{now}
-use Rattle.validate.proofs.Pass.{state-start}
+use Rattle.scan.proofs.Pass.{state-start}
 use Rattle.counts.specs.Answers.{recordCountsOf}
 use Rattle.append.proofs.Planning.{plan-refused, plan-counted, plan-keys, plan-ready, plan-noBlind, plan-arrays, plan-matched, plan-entry}
 use borrow.Author.Needs.{needs}

@@ -2,7 +2,7 @@
 -- Assumes nothing.
 use mathlib.Core.Path.{_∙_}
 use denote.Ref.{now}
-use Rattle.validate.proofs.Pass.{state-start}
+use Rattle.scan.proofs.Pass.{state-start}
 use Rattle.chain.proofs.Stages.{first-refused, first-passed}
 use borrow.Author.Needs.{needs}
 use Rattle.chain.proofs.begin_opened.Statement.{statement}

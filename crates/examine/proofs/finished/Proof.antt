@@ -6,7 +6,7 @@ use native.Mathlib.Omega.{arith}
 use Rattle.journal.specs.Orders.{tryEach, activeOrder, decide}
 use Rattle.examine.proofs.StagesLaws.{active-start, active-passed, active-refused}
 use Rattle.journal.proofs.OrdersLaws.{tried-done}
-use Rattle.validate.specs.Answers.{activeIn}
+use Rattle.settle.specs.Active.{activeIn}
 use Rattle.examine.proofs.finished.Statement.{statement}
 use Rattle.examine.proofs.finished.Tie as tie
 

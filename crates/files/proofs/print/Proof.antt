@@ -5,9 +5,9 @@ use mathlib.Core.List.{List}
 use Prim.Native.Nat.{ℕ, _≤_}
 use lib.ListN.{length}
 use borrow.Author.Needs.{needs}
-use Rattle.report.specs.declared.Printed.{Printed}
-use Rattle.report.specs.declared.Printed.the-variants.{Bytes}
-use Rattle.report.specs.Printed.{Within}
+use Rattle.day_report.specs.declared.Printed.{Printed}
+use Rattle.day_report.specs.declared.Printed.the-variants.{Bytes}
+use Rattle.day_report.specs.Printed.{Within}
 use Rattle.files.proofs.print.Statement.{statement}
 use Rattle.files.proofs.print.Tie as tie
 

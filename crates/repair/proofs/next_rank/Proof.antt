@@ -2,7 +2,7 @@
 -- Assumes nothing.
 use native.Mathlib.Omega.{arith}
 use borrow.Author.Needs.{needs}
-use Rattle.repair.proofs.RankLaws.{next-raised}
+use Rattle.repair.proofs.RankLaws.{next-one-more}
 use Rattle.repair.proofs.next_rank.Statement.{statement}
 use Rattle.repair.proofs.next_rank.Tie as tie
 
@@ -10,4 +10,4 @@ pub next-rank-spec : {M : Type 1} → statement M
 next-rank-spec =
     tie.close
     (tie.spec
-    (λ c. search needs) (λ c κs. search needs) (λ c κs. search needs) (λ c κs. omega arith) (λ c. search next-raised))
+    (λ c. search needs) (λ c κs. search needs) (λ c κs. search needs) (λ c κs. omega arith) (λ c. search next-one-more))

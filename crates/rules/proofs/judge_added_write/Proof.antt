@@ -1,6 +1,7 @@
 -- `rules::judge_added_write` meets its contract.
 -- Assumes nothing.
-use Rattle.rules.proofs.RuleLaws.{item-write, write-conflict, write-blind, write-matched}
+use Rattle.arrays.proofs.ArraysLaws.{item-write}
+use Rattle.rules.proofs.RuleLaws.{write-conflict, write-blind, write-matched}
 use borrow.Author.Needs.{needs}
 use Rattle.rules.proofs.judge_added_write.Statement.{statement}
 use Rattle.rules.proofs.judge_added_write.Tie as tie

@@ -1,6 +1,7 @@
 -- `rules::judge_read` meets its contract.
 -- Assumes nothing.
-use Rattle.rules.proofs.RuleLaws.{item-read, read-conflict, read-passed}
+use Rattle.arrays.proofs.ArraysLaws.{item-read}
+use Rattle.rules.proofs.RuleLaws.{read-conflict, read-passed}
 use borrow.Author.Needs.{needs}
 use Rattle.rules.proofs.judge_read.Statement.{statement}
 use Rattle.rules.proofs.judge_read.Tie as tie

@@ -1,6 +1,7 @@
 -- `rules::judge_write` meets its contract.
 -- Assumes nothing.
-use Rattle.rules.proofs.RuleLaws.{item-write, write-conflict, write-blind, write-right, write-wrong}
+use Rattle.arrays.proofs.ArraysLaws.{item-write}
+use Rattle.rules.proofs.RuleLaws.{write-conflict, write-blind, write-right, write-wrong}
 use borrow.Author.Needs.{needs}
 use Rattle.rules.proofs.judge_write.Statement.{statement}
 use Rattle.rules.proofs.judge_write.Tie as tie

@@ -1,7 +1,7 @@
 -- `rules::matches_standing` meets its contract.
 -- Assumes nothing.
+use Rattle.arrays.proofs.WriterLaws.{writes-in}
 use Rattle.rules.proofs.RuleLaws.{unlike-bits, unlike-unwritten}
-use Rattle.rules.proofs.ReadersLaws.{writes-in}
 use borrow.Author.Needs.{needs}
 use Rattle.rules.proofs.matches_standing.Statement.{statement}
 use Rattle.rules.proofs.matches_standing.Tie as tie

@@ -1,7 +1,7 @@
 -- `rules::standing_at` meets its contract.
 -- Assumes nothing.
+use Rattle.arrays.proofs.WriterLaws.{writes-in, last-long}
 use Rattle.rules.proofs.AmountLaws.{bases-in, base-long, last-ends, standing-after, standing-before}
-use Rattle.rules.proofs.ReadersLaws.{writes-in, last-long}
 use borrow.Author.Needs.{needs}
 use Rattle.rules.proofs.standing_at.Statement.{statement}
 use Rattle.rules.proofs.standing_at.Tie as tie

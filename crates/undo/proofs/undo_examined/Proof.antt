@@ -3,7 +3,7 @@
 use mathlib.Core.Path.{sym, ap, _∙_}
 use borrow.Author.Needs.{needs}
 use Rattle.rules.specs.Answers.{verdictOf}
-use Rattle.validate.proofs.Pass.{never-passed}
+use Rattle.scan.proofs.Pass.{never-passed}
 use Rattle.undo.proofs.ResultLaws.{result-admit}
 use Rattle.undo.proofs.undo_examined.Statement.{statement}
 use Rattle.undo.proofs.undo_examined.Tie as tie

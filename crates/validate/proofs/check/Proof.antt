@@ -2,7 +2,7 @@
 -- Assumes nothing.
 use denote.Ref.{now}
 use mathlib.Core.Path.{_∙_}
-use Rattle.validate.proofs.Pass.{state-start}
+use Rattle.scan.proofs.Pass.{state-start}
 use Rattle.validate.proofs.Whole.{check-refused, check-accepted}
 use borrow.Author.Needs.{needs}
 use Rattle.validate.proofs.check.Statement.{statement}

@@ -2,7 +2,7 @@
 -- Assumes nothing.
 use Rattle.fields.specs.Answers.{headerOf}
 use Rattle.rules.specs.Answers.{verdictOf}
-use Rattle.validate.proofs.Pass.{never-passed}
+use Rattle.scan.proofs.Pass.{never-passed}
 use denote.Ref.{now}
 use mathlib.Core.Path.{sym, ap, _∙_}
 use Rattle.fields.proofs.HeadLaws.{header-opened}
@@ -63,9 +63,8 @@ pub verify-spec : {M : Type 1} → statement M
 verify-spec =
     tie.close
     (tie.spec
-    (λ c κs. search needs) (λ c. search needs) (λ c. search needs) returns (λ c. search needs) verify-records-requires
-    (λ c. search needs) (λ c. search needs) (λ c. search needs) (λ c. search needs) (λ c. search needs) (λ c. search needs)
-    (λ c. search needs) (λ c. search needs) (λ c. search needs) (λ c. search needs)
-    (λ c. never-passed _ (c .enum-told3 .given .1)) (λ c. search needs) (λ c. search needs) (λ c. search needs)
-    (λ c. search needs) (λ c. search needs) (λ c. search needs) returns-3 (λ c. search needs) (λ c. search needs)
-    (λ c. search needs) (λ c. search needs) (λ c. search needs) (λ c. search needs) returns-4 returns-5)
+    (λ c κs. search) (λ c. search) (λ c. search) returns (λ c. search needs) verify-records-requires
+    (λ c. search) (λ c. search) (λ c. search) (λ c. search) (λ c. search) (λ c. search) (λ c. search) (λ c. search)
+    (λ c. search) (λ c. search) (λ c. never-passed _ (c .enum-told3 .given .1))
+    (λ c. search) (λ c. search) (λ c. search) (λ c. search) (λ c. search) (λ c. search) returns-3
+    (λ c. search) (λ c. search) (λ c. search) (λ c. search) (λ c. search) (λ c. search) returns-4 returns-5)

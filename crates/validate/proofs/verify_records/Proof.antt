@@ -3,9 +3,8 @@
 use Rattle.rules.specs.Answers.{verdictOf}
 use denote.Ref.{now}
 use mathlib.Core.Path.{ap, _∙_}
-use Rattle.validate.proofs.Pass.{not-passed}
-use Rattle.validate.proofs.Whole.{later-refused, later-settled, passed-ready}
-use borrow.Author.Needs.{needs}
+use Rattle.scan.proofs.Pass.{not-passed, passed-ready}
+use Rattle.validate.proofs.Whole.{later-refused, later-settled}
 use Rattle.validate.proofs.verify_records.Statement.{statement}
 use Rattle.validate.proofs.verify_records.Tie as tie
 
@@ -44,6 +43,6 @@ pub verify-records-spec : {M : Type 1} → statement M
 verify-records-spec =
     tie.close
     (tie.spec
-    (λ c κs. search needs) (λ c. search needs) (λ c. search needs) (λ c. search needs) (λ c. search needs) (λ c. search needs) (λ c. search needs)
-    (λ c. search needs) (λ c. search needs) returns final-state-requires
-    (λ c. search needs) (λ c. search needs) (λ c. search needs) (λ c. search needs) (λ c. search needs) (λ c. search needs) returns-2)
+    (λ c κs. search) (λ c. search) (λ c. search) (λ c. search) (λ c. search) (λ c. search) (λ c. search) (λ c. search)
+    (λ c. search) returns final-state-requires (λ c. search) (λ c. search) (λ c. search) (λ c. search) (λ c. search)
+    (λ c. search) returns-2)

@@ -1,0 +1,4 @@
+pub mod EndCodes
+pub mod Found
+pub mod ArraysLaws
+pub mod WriterLaws
