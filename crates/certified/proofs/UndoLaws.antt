@@ -9,6 +9,7 @@ use Rattle.journal.specs.Inputs.{Inputs}
 use Rattle.journal.specs.Calls.{UndoTotals, UndoResult, undo}
 use Rattle.demands.specs.Undoing.{Accepted}
 use Rattle.demands.proofs.Demands.{demand-1, demand-2, demand-3}
+use Rattle.demands.proofs.Requests.{requests}
 use Rattle.certified.specs.Promises.{Repaired, UndoPromise}
 
 module _ (d : Inputs) (bad status out : List ℕ) where
@@ -21,6 +22,7 @@ module _ (d : Inputs) (bad status out : List ℕ) where
         least = λ g. u .least (λ s. g s ≡ true);
         fewest = demand-3 .fewest d bad status out n a;
         deleted = demand-2 .copyAndTable d bad status out n a;
+        sum = requests .sum .tables d bad status out n a;
       }
 
   module _ (bytes : Bytes (d .journal)) where

@@ -1,6 +1,6 @@
 -- What each call promises: of the values lent at entry, and of the answer and the loans at exit, as the demands say it and with no
 -- word of how it is computed. One record a call; the predicates are those of `demands`, and proofs/ takes each promise from the
--- three demands there.
+-- three demands and the requests there.
 -- Assumes nothing.
 use mathlib.Core.Path.{_≡_}
 use mathlib.Core.Bool.{Bool, true, false}
@@ -8,12 +8,14 @@ use mathlib.Core.Logic.{_↔_}
 use mathlib.Core.List.{List, _∷_}
 use mathlib.Core.Option.{none}
 use Prim.Native.Nat.{ℕ, _+_, _<_, _≤_}
+use lib.IntN.{_-ℤ_}
 use lib.ListN.{length, getD, drop}
 use Rattle.lists.specs.Search.{keep}
 use Rattle.lists.specs.Tables.{countIf}
 use Rattle.format.specs.declared.Record.{Record}
 use Rattle.format.specs.Limits.{recordBytes, journalBytes, maxTransaction}
 use Rattle.model.specs.History.{Amount, ofTx, active, current}
+use Rattle.model.specs.Net.{tableSum}
 use Rattle.model.specs.Undo.{isSource, Closed}
 use Rattle.journal.specs.Inputs.{Inputs, inputsOf, handedOn}
 use Rattle.journal.specs.Journal.{count, items, whole, amountAt}
@@ -28,6 +30,7 @@ use Rattle.demands.specs.Undoing.{Accepting, copyIn, RepairedDay, statusAt, Sta
 use Rattle.demands.specs.Refusing.{startNumbers, checkNumbers, countNumbers, chainNumbers, appendNumbers, undoNumbers}
 use Rattle.demands.specs.Refusing.{StartRefused, Unopened, CheckRefused, ChainRefused, AppendRefused, UndoRefused, Lowest}
 use Rattle.demands.specs.Demands.{Refuses}
+use Rattle.demands.specs.Requests.{sumLeft}
 use Rattle.chain.specs.Visits.{lsnsOf}
 
 -- ---- start
@@ -128,6 +131,8 @@ pub record Repaired (d : Inputs) (bad out : List ℕ) (r : UndoResult) (n : Undo
   pub fewest : FewestTransactions (d .journal) bad r
   -- copy and table are those of the delete-transaction model
   pub deleted : Deleted d r (copyIn r n)
+  -- 02, request 1: after less before over the copy's writes is the sum of the table left less the sum of the opening table
+  pub sum : sumLeft r n ≡ tableSum (r .table) -ℤ tableSum (openingTable d)
 
 -- a take-back that was lent d, a list, marks and paper, and answered and left r
 pub record UndoPromise (d : Inputs) (bad status out : List ℕ) (r : UndoResult) : Type 0 where

@@ -150,9 +150,13 @@ rewritten before =
     ∷ commitBytes 2 0
     ∷ [])
 
+-- one transaction writes the one item, from this amount to that one
+abbrev pub oneWrite : List ℕ → List ℕ → List ℕ
+oneWrite before after = flatten (headBytes 3 1 ∷ readBytes 1 2 0 ∷ writeBytes 1 3 0 before after ∷ commitBytes 1 0 ∷ [])
+
 -- from the lowest amount to the highest
 abbrev pub extremes : List ℕ
-extremes = flatten (headBytes 3 1 ∷ readBytes 1 2 0 ∷ writeBytes 1 3 0 lowest highest ∷ commitBytes 1 0 ∷ [])
+extremes = oneWrite lowest highest
 
 -- a commit of transaction 1,024 (bytes 00 04), of 1,025 (01 04)
 abbrev pub transaction1024 : List ℕ

@@ -88,7 +88,7 @@ module _ (b c : List ℕ) (a : Agree b c) where
 
   -- ---- the same orders
 
-  open-agree : openOrder b ≡ openOrder c
+  pub open-agree : openOrder b ≡ openOrder c
   unfolding openOrder short badHead truncated
   open-agree =
       let l1 : ltb (length b) 20 ≡ false = le-ltb (length b) 20 (omega (arith, a .firstLong)) in

@@ -14,3 +14,4 @@ pub mod ReadsFrom
 pub mod Onto
 pub mod Counting
 pub mod Demands
+pub mod Requests

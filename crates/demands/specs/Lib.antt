@@ -6,3 +6,4 @@ pub mod Incremental
 pub mod Appending
 pub mod Refusing
 pub mod Counting
+pub mod Requests

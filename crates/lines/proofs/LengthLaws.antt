@@ -43,12 +43,12 @@ length-each f k h i zero = rw (each-zero f i) (omega arith)
 length-each f k h i (suc n) =
     rw (each-suc f i n, length-append) (omega (arith, h i, length-each f k h (suc i) n, mul-suc k n))
 
--- ---- the length of a report: 55 + 26 × 1,024 + 70 × 1,024 + 67 at most
+-- ---- the length of a report: 55 + 26 × 1,024 + 70 × 1,024 + 26 + 67 at most
 
-pub length-lines : (n : ℕ) (m : UndoTotals → ℕ) (old new : List Amount) (status : List ℕ) (a : Answer UndoTotals) → ((c : UndoTotals) → a ≡ accepted c → length old ≤ 1024)
-    → length (lines n m old new status a) ≤ 100000
+pub length-lines : (n : ℕ) (m : UndoTotals → ℕ) (s : UndoTotals → List ℕ) (old new : List Amount) (status : List ℕ) (a : Answer UndoTotals) → ((c : UndoTotals) → a ≡ accepted c → (length old ≤ 1024) × (length (s c) ≤ 21))
+    → length (lines n m s old new status a) ≤ 100000
 unfolding lines
-length-lines n m old new status (refused k p) h = omega (arith, length-refusedLine k p)
-length-lines n m old new status (accepted c) h =
+length-lines n m s old new status (refused k p) h = omega (arith, length-refusedLine k p)
+length-lines n m s old new status (accepted c) h =
     simp (length-flatten, length-none)
-    (omega (arith, h c refl, length-decimal n, length-decimal (m c), length-each (undoneIn status) 26 (length-undoneIn status) 1 1024, length-each (changeIn old new) 70 (length-changeIn old new) 0 (length old), length-decimal (c .surviving), length-decimal (c .undone), length-decimal (c .aborted)))
+    (omega (arith, h c refl .0, h c refl .1, length-decimal n, length-decimal (m c), length-each (undoneIn status) 26 (length-undoneIn status) 1 1024, length-each (changeIn old new) 70 (length-changeIn old new) 0 (length old), length-decimal (c .surviving), length-decimal (c .undone), length-decimal (c .aborted)))

@@ -10,7 +10,7 @@ use Rattle.format.specs.Limits.{maxTransaction}
 use Rattle.model.specs.History.{Amount, sameAmount}
 use Rattle.journal.specs.Journal.{amountAt}
 use Rattle.journal.specs.Calls.{Answer, refused, accepted, UndoTotals}
-use Rattle.text.specs.Lines.{countLine, undoneLine, changeLine, endLine, refusedLine}
+use Rattle.text.specs.Lines.{countLine, undoneLine, changeLine, sumLine, endLine, refusedLine}
 
 -- the line of transaction s: none, if its mark is not 2
 unfoldable pub undoneIn : List ℕ → ℕ → List ℕ
@@ -29,8 +29,10 @@ abbrev pub changeLines : List Amount → List Amount → List ℕ
 changeLines old new = each (changeIn old new) 0 (length old)
 
 -- the report of a journal of n records, by take-back's answer, the table before and after, and the statuses (01: marks); m gives
--- the copy's record count
-unfoldable pub lines : ℕ → (UndoTotals → ℕ) → List Amount → List Amount → List ℕ → Answer UndoTotals → List ℕ
-lines n m old new status (refused number place) = refusedLine number place
-lines n m old new status (accepted c) =
-    flatten (countLine n (m c) ∷ undoneLines status ∷ changeLines old new ∷ endLine (c .surviving) (c .undone) (c .aborted) ∷ [])
+-- the copy's record count, s its net change (02: the sum) in decimal
+unfoldable pub lines : ℕ → (UndoTotals → ℕ) → (UndoTotals → List ℕ) → List Amount → List Amount → List ℕ → Answer UndoTotals
+    → List ℕ
+lines n m s old new status (refused number place) = refusedLine number place
+lines n m s old new status (accepted c) =
+    flatten (countLine n (m c) ∷ undoneLines status ∷ changeLines old new ∷ sumLine (s c)
+    ∷ endLine (c .surviving) (c .undone) (c .aborted) ∷ [])

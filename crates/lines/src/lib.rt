@@ -6,7 +6,8 @@ ghost use lib.ListN.{length};
 ghost use Rattle.format.specs.Limits.{recordBytes, statusBytes};
 ghost use Rattle.journal.specs.Calls as calls;
 ghost use Rattle.journal.specs.Reasons.{numberOf, placeOf};
-ghost use Rattle.text.specs.Lines.{endLine, refusedLine};
+ghost use Rattle.text.specs.Decimal.{decimalS};
+ghost use Rattle.text.specs.Lines.{sumLine, endLine, refusedLine};
 ghost use Rattle.text.specs.Puts.{Fits, Put};
 ghost use Rattle.deliver.specs.Answers.{answerOf};
 ghost use Rattle.lines.specs.AnswerLines.{undoneIn, undoneLines, changeIn, changeLines, lines};
@@ -16,6 +17,7 @@ use format::Key;
 use format::TRANSACTIONS_END;
 use format::TransactionId;
 use journal::Reason;
+use text::Signed;
 
 // The line of transaction s, if its status is 2 (document 01: mark 2, taken back).
 fn put_undone_in(out: &mut [u8], at: usize, status: &[u8], s: TransactionId) -> usize
@@ -82,24 +84,43 @@ fn copied_records(bytes: u64) -> u64
     if bytes < 20 { 0 } else { bytes / 20 - 1 }
 }
 
-// The last lines: the changed items, and the counts.
+// The last lines: the sum and the counts.
+fn put_sum_and_end(
+    out: &mut [u8],
+    at: usize,
+    sum: Signed,
+    surviving: u64,
+    undone: u64,
+    aborted: u64,
+) -> usize
+    requires { ⌜ Fits at (flatten (sumLine (decimalS sum) ∷ endLine surviving undone aborted ∷ [])) (now out) ⌝ }
+    ensures { λ r. ⌜ Put at (flatten (sumLine (decimalS sum) ∷ endLine surviving undone aborted ∷ [])) (now (out .entry))
+        (now (out .exit)) r ⌝ }
+{
+    let a = text::put_sum(out, at, sum);
+    text::put_end(out, a, surviving, undone, aborted)
+}
+
+// The changed items, and the last lines.
 fn put_changes_and_end(
     out: &mut [u8],
     at: usize,
     old: &[i32],
     new: &[i32],
+    sum: Signed,
     surviving: u64,
     undone: u64,
     aborted: u64,
 ) -> usize
     requires { ⌜ (length (now old) ≡ length (now new))
-        × Fits at (flatten (changeLines (now old) (now new) ∷ endLine surviving undone aborted ∷ [])) (now out)
-        × (length (now old) ≤ 16005) ⌝ }
-    ensures { λ r. ⌜ Put at (flatten (changeLines (now (old .entry)) (now (new .entry)) ∷ endLine surviving undone aborted ∷ []))
-        (now (out .entry)) (now (out .exit)) r ⌝ }
+        × Fits at (flatten (changeLines (now old) (now new) ∷ sumLine (decimalS sum) ∷ endLine surviving undone aborted ∷ []))
+        (now out) × (length (now old) ≤ 16005) ⌝ }
+    ensures { λ r. ⌜ Put at
+        (flatten (changeLines (now (old .entry)) (now (new .entry)) ∷ sumLine (decimalS sum)
+        ∷ endLine surviving undone aborted ∷ [])) (now (out .entry)) (now (out .exit)) r ⌝ }
 {
     let a = put_changes(out, at, old, new);
-    text::put_end(out, a, surviving, undone, aborted)
+    put_sum_and_end(out, a, sum, surviving, undone, aborted)
 }
 
 // The lines behind the first.
@@ -109,19 +130,21 @@ fn put_body(
     status: &[u8],
     old: &[i32],
     new: &[i32],
+    sum: Signed,
     surviving: u64,
     undone: u64,
     aborted: u64,
 ) -> usize
     requires { ⌜ (length (now status) ≡ statusBytes) × (length (now old) ≡ length (now new))
-        × Fits at (flatten (undoneLines (now status) ∷ changeLines (now old) (now new) ∷ endLine surviving undone aborted ∷ []))
-        (now out) × (length (now old) ≤ 16005) ⌝ }
+        × Fits at
+        (flatten (undoneLines (now status) ∷ changeLines (now old) (now new) ∷ sumLine (decimalS sum)
+        ∷ endLine surviving undone aborted ∷ [])) (now out) × (length (now old) ≤ 16005) ⌝ }
     ensures { λ r. ⌜ Put at
-        (flatten (undoneLines (now (status .entry)) ∷ changeLines (now (old .entry)) (now (new .entry))
+        (flatten (undoneLines (now (status .entry)) ∷ changeLines (now (old .entry)) (now (new .entry)) ∷ sumLine (decimalS sum)
         ∷ endLine surviving undone aborted ∷ [])) (now (out .entry)) (now (out .exit)) r ⌝ }
 {
     let a = put_all_undone(out, at, status);
-    put_changes_and_end(out, a, old, new, surviving, undone, aborted)
+    put_changes_and_end(out, a, old, new, sum, surviving, undone, aborted)
 }
 
 // The lines of an accepted take-back.
@@ -131,21 +154,22 @@ fn put_accepted(
     status: &[u8],
     old: &[i32],
     new: &[i32],
+    sum: Signed,
     surviving: u64,
     undone: u64,
     aborted: u64,
     bytes: u64,
 ) -> usize
     requires { ⌜ (length (now status) ≡ statusBytes) × (length (now old) ≡ length (now new))
-        × Fits 0 (lines n recordsIn (now old) (now new) (now status)
+        × Fits 0 (lines n recordsIn (λ c. decimalS sum) (now old) (now new) (now status)
         (calls.Answer.accepted (totalsWith surviving undone aborted bytes))) (now out) × (length (now old) ≤ 16005) ⌝ }
     ensures { λ r. ⌜ Put 0
-        (lines n recordsIn (now (old .entry)) (now (new .entry)) (now (status .entry))
+        (lines n recordsIn (λ c. decimalS sum) (now (old .entry)) (now (new .entry)) (now (status .entry))
         (calls.Answer.accepted (totalsWith surviving undone aborted bytes))) (now (out .entry)) (now (out .exit)) r ⌝ }
 {
     let m = copied_records(bytes);
     let a = text::put_counts(out, 0, n, m);
-    put_body(out, a, status, old, new, surviving, undone, aborted)
+    put_body(out, a, status, old, new, sum, surviving, undone, aborted)
 }
 
 // The line of a refused take-back.
@@ -158,7 +182,7 @@ fn put_reason(out: &mut [u8], why: Reason) -> usize
     text::put_refused(out, 0, number as u64, place)
 }
 
-// The lines of take-back's answer.
+// The lines of take-back's answer; `sum` is the copy's net change, where there is a copy.
 pub fn put_answer(
     out: &mut [u8],
     answer: Undone,
@@ -166,10 +190,13 @@ pub fn put_answer(
     status: &[u8],
     old: &[i32],
     new: &[i32],
+    sum: Signed,
 ) -> usize
     requires { ⌜ (length (now status) ≡ statusBytes) × (length (now old) ≡ length (now new))
-        × Fits 0 (lines n recordsIn (now old) (now new) (now status) (answerOf answer)) (now out) × (length (now old) ≤ 16005) ⌝ }
-    ensures { λ r. ⌜ Put 0 (lines n recordsIn (now (old .entry)) (now (new .entry)) (now (status .entry)) (answerOf answer))
+        × Fits 0 (lines n recordsIn (λ c. decimalS sum) (now old) (now new) (now status) (answerOf answer)) (now out)
+        × (length (now old) ≤ 16005) ⌝ }
+    ensures { λ r. ⌜ Put 0
+        (lines n recordsIn (λ c. decimalS sum) (now (old .entry)) (now (new .entry)) (now (status .entry)) (answerOf answer))
         (now (out .entry)) (now (out .exit)) r ⌝ }
 {
     match answer {
@@ -179,6 +206,7 @@ pub fn put_answer(
             status,
             old,
             new,
+            sum,
             c.surviving as u64,
             c.undone as u64,
             c.aborted as u64,

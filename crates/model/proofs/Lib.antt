@@ -11,3 +11,4 @@ pub mod Renumber
 pub mod Opening
 pub mod Sets
 pub mod Extension
+pub mod NetLaws

@@ -1,3 +1,4 @@
 pub mod History
 pub mod Rules
 pub mod Undo
+pub mod Net

@@ -17,9 +17,12 @@ use Rattle.journal.proofs.Passing.{head-facts}
 use Rattle.journal.proofs.Unrefused.{table-length}
 use Rattle.demands.specs.Days.{accepts}
 use Rattle.demands.specs.Undoing.{copyIn}
+use Rattle.demands.specs.Requests.{sumLeft}
 use Rattle.demands.proofs.DaysLaws.{pass-checks}
 use Rattle.certified.specs.Promises.{UndoPromise}
+use Rattle.text.specs.Decimal.{decimalZ}
 use Rattle.text.specs.Puts.{Fits, Put}
+use Rattle.text.proofs.DecimalLaws.{length-decimalZ}
 use Rattle.lines.specs.AnswerLines.{lines}
 use Rattle.lines.specs.Counting.{recordsIn}
 use Rattle.lines.proofs.LengthLaws.{length-lines}
@@ -54,28 +57,28 @@ module _ (d : Inputs) (bad status out : List ℕ) {u : UndoResult} (kept : UndoP
 module _ (d : Inputs) (bad status out : List ℕ) {u : UndoResult} (kept : UndoPromise d bad status out u) where
   length-report : length (linesOf d u) ≤ 100000
   unfolding linesOf
-  length-report = length-lines _ _ (d .table) _ _ (u .answer) (λ c e. accepted-items d bad status out kept e)
+  length-report = length-lines _ _ _ (d .table) _ _ (u .answer) (λ c e. (accepted-items d bad status out kept e, length-decimalZ (sumLeft u c)))
 
-  -- ---- the report by what the call answered and left, the record counts as the code has them
+  -- ---- the report by what the call answered and left, the record counts and the sum as the code has them
 
-  reported : (n : ℕ) → (20 ≤ length (d .journal) → n ≡ count (d .journal)) → lines n recordsIn (d .table) (u .table) (u .status) (u .answer) ≡ linesOf d u
-  unfolding linesOf lines
-  reported n en = go (u .answer) refl
-    where
-      go : (a : Answer UndoTotals) → u .answer ≡ a
-          → lines n recordsIn (d .table) (u .table) (u .status) a ≡ lines (count (d .journal)) (λ c. count (copyIn u c)) (d .table) (u .table) (u .status) a
-      go (refused k p) e = refl
-      go (accepted c) e = rw (en (accepted-head d bad status out kept e), accepted-records d bad status out kept e)
+  module _ (n : ℕ) (en : 20 ≤ length (d .journal) → n ≡ count (d .journal)) (v : List ℕ) (ev : (c : UndoTotals) → u .answer ≡ accepted c → v ≡ decimalZ (sumLeft u c)) where
+    reported : lines n recordsIn (λ c. v) (d .table) (u .table) (u .status) (u .answer) ≡ linesOf d u
+    unfolding linesOf lines
+    reported = go (u .answer) refl
+      where
+        go : (a : Answer UndoTotals) → u .answer ≡ a
+            → lines n recordsIn (λ c. v) (d .table) (u .table) (u .status) a
+            ≡ lines (count (d .journal)) (λ c. count (copyIn u c)) (λ c. decimalZ (sumLeft u c)) (d .table) (u .table) (u .status) a
+        go (refused k p) e = refl
+        go (accepted c) e = rw (en (accepted-head d bad status out kept e), accepted-records d bad status out kept e, ev c e)
 
-  -- these lines fit, and where they are written the text reports the call
+    -- these lines fit, and where they are written the text reports the call
+    pub reported-fits : {l : List ℕ} → 100000 ≤ length l → Fits 0 (lines n recordsIn (λ c. v) (d .table) (u .table) (u .status) (u .answer)) l
+    reported-fits h = rw reported (record { room = omega (arith, length-report) })
 
-  module _ (n : ℕ) (en : 20 ≤ length (d .journal) → n ≡ count (d .journal)) where
-    pub reported-fits : {l : List ℕ} → 100000 ≤ length l → Fits 0 (lines n recordsIn (d .table) (u .table) (u .status) (u .answer)) l
-    reported-fits h = rw (reported n en) (record { room = omega (arith, length-report) })
-
-    pub reported-put : {l m : List ℕ} {r : ℕ} → u ≡ undo d bad status out → Put 0 (lines n recordsIn (d .table) (u .table) (u .status) (u .answer)) l m r
+    pub reported-put : {l m : List ℕ} {r : ℕ} → u ≡ undo d bad status out → Put 0 (lines n recordsIn (λ c. v) (d .table) (u .table) (u .status) (u .answer)) l m r
         → (Put 0 (linesOf d (undo d bad status out)) l m r) × Reports d bad status out (take r m)
-    reported-put is p = let text = rw (reported n en) at p in (rw is at text, record { result = u; promise = kept; lines = put-front text })
+    reported-put is p = let text = rw reported at p in (rw is at text, record { result = u; promise = kept; lines = put-front text })
 
 -- written, it ends in the room for any report
 pub length-put : {v l m : List ℕ} {n : ℕ} {d : Inputs} {bad status out : List ℕ} → Put 0 v l m n → Reports d bad status out (take n m) → n ≤ 100000

@@ -33,5 +33,7 @@ pub fn report_on(
 {
     let answer = certified::undo(journal, new, bad, status, copy);
     let n = decode::count_in(journal);
-    lines::put_answer(out, answer, n, status, old, new)
+    let change = net::net_in(copy);
+    let sum = text::by_sign(change);
+    lines::put_answer(out, answer, n, status, old, new, sum)
 }

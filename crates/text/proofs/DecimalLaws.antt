@@ -3,16 +3,19 @@
 use mathlib.Core.Path.{_≡_, refl, sym, ap, _∙_}
 use mathlib.Core.Bool.{true, false}
 use mathlib.Core.List.{List, [], _∷_, _++_, append-nil, flatten}
-use Prim.Native.Nat.{ℕ, zero, suc, _-_, _/_, _%_, _^_, _≤_, _<_}
+use Prim.Native.Nat.{ℕ, zero, suc, _+_, _-_, _/_, _%_, _^_, _≤_, _<_}
 use native.Mathlib.Omega.{arith, pow-step}
-use lib.Dec.{ltb}
-use lib.IntN.{ℤ, pos, negsuc}
+use native.Mathlib.Numerals.{add-one}
+use lib.Dec.{T, ltb}
+use lib.IntN.{ℤ, pos, negsuc, natAbs, _-ℤ_}
+use lib.Signed.{ltZ, nonNeg}
 use lib.ListN.{length, length-append}
 use borrow.Author.Tests.{lt-ltb, le-ltb, ltb-true, ltb-false}
-use Rattle.lists.proofs.BoolLaws.{byCases}
-use mir.Syntax.{w32}
-use mir.Val.{SFits}
-use Rattle.format.specs.Bytes.{bits}
+use Rattle.lists.proofs.BoolLaws.{byCases, clash}
+use mir.Syntax.{w64}
+use mir.Val.{toZ, ofZ, Fits, SFits}
+use mir.ValLaws.{toZ-ofZ}
+use Rattle.format.proofs.Twos.{less-below}
 use Rattle.text.specs.declared.Signed.{Signed}
 use Rattle.text.specs.Puts.{labelled}
 use Rattle.text.specs.Decimal.{digit, digits, decimal, decimalZ, decimalS}
@@ -62,18 +65,6 @@ unfolding decimalZ
 length-decimalZ (pos n) = omega (arith, length-decimal n)
 length-decimalZ (negsuc n) = omega (arith, length-decimal (suc n))
 
--- ---- a signed number by its bits
-
-decimalZ-low : (z : ℤ) → SFits w32 z → bits z < 2147483648 → decimalZ z ≡ decimal (bits z)
-unfolding decimalZ
-decimalZ-low (pos n) f h = refl
-decimalZ-low (negsuc k) f h = absurd (omega (arith, f .sfits))
-
-decimalZ-high : (z : ℤ) → SFits w32 z → 2147483648 ≤ bits z → decimalZ z ≡ 45 ∷ decimal (4294967296 - bits z)
-unfolding decimalZ
-decimalZ-high (pos n) f h = absurd (omega (arith, f .sfits))
-decimalZ-high (negsuc k) f h = ap (λ n. 45 ∷ decimal n) (omega (arith, f .sfits))
-
 -- ---- by sign and size
 
 flatten-two : (v w : List ℕ) → flatten (v ∷ w ∷ []) ≡ v ++ w
@@ -88,10 +79,53 @@ pub decimalS-minus : (x : Signed) → x .minus ≡ true → decimalS x ≡ label
 unfolding decimalS
 decimalS-minus x e = rw e
 
-pub decimalS-low : (z : ℤ) → SFits w32 z → bits z < 2147483648 → decimalS (record { minus = false; size = bits z }) ≡ decimalZ z
-unfolding decimalS
-decimalS-low z f h = sym (decimalZ-low z f h)
+-- ---- a number of 64 bits, by the test whether it is below zero
 
-pub decimalS-high : (z : ℤ) → SFits w32 z → 2147483648 ≤ bits z → decimalS (record { minus = true; size = 4294967296 - bits z }) ≡ decimalZ z
-unfolding decimalS
-decimalS-high z f h = flatten-two (45 ∷ []) _ ∙ sym (decimalZ-high z f h)
+is-below : (x : ℤ) → ltZ x (pos 0) ≡ true → (k : ℕ) × (x ≡ negsuc k)
+is-below (pos n) h = absurd (omega (arith, ltb-true n 0 h))
+is-below (negsuc k) h = (k, refl)
+
+module _ (x : ℤ) (f : SFits w64 x) where
+  module _ (h : ltZ (toZ w64 (ofZ w64 x)) (pos 0) ≡ true) where
+    size : (k : ℕ) × (x ≡ negsuc k)
+    size = is-below x (rw (toZ-ofZ w64 x f) at h)
+
+    turned : negsuc 0 -ℤ toZ w64 (ofZ w64 x) ≡ pos (size .0)
+    turned = ap (negsuc 0 -ℤ_) (toZ-ofZ w64 x f ∙ size .1) ∙ less-below (size .0)
+
+    few : size .0 < 9223372036854775808
+    few = let e = size .1 in omega (arith, rw e at (f .sfits))
+
+    pub turned-fits : SFits w64 (negsuc 0 -ℤ toZ w64 (ofZ w64 x))
+    turned-fits = rw turned (record { sfits = few })
+
+    turned-back : toZ w64 (ofZ w64 (negsuc 0 -ℤ toZ w64 (ofZ w64 x))) ≡ pos (size .0)
+    turned-back = toZ-ofZ w64 _ turned-fits ∙ turned
+
+    pub turned-plain : T (nonNeg (toZ w64 (ofZ w64 (negsuc 0 -ℤ toZ w64 (ofZ w64 x))))) × Fits w64 (natAbs (toZ w64 (ofZ w64 (negsuc 0 -ℤ toZ w64 (ofZ w64 x)))))
+    turned-plain = rw turned-back (tt, record { fits = omega (arith, few) })
+
+    pub turned-few : natAbs (toZ w64 (ofZ w64 (negsuc 0 -ℤ toZ w64 (ofZ w64 x)))) < 9223372036854775808
+    turned-few = rw turned-back few
+
+    pub decimalS-below : decimalS (record { minus = true; size = natAbs (toZ w64 (ofZ w64 (negsuc 0 -ℤ toZ w64 (ofZ w64 x)))) + 1 }) ≡ decimalZ x
+    unfolding decimalS decimalZ
+    decimalS-below = rw turned-back (flatten-two (45 ∷ []) _ ∙ ap (λ n. 45 ∷ decimal n) (add-one (size .0)) ∙ sym (ap decimalZ (size .1)))
+
+  module _ (h : ltZ (toZ w64 (ofZ w64 x)) (pos 0) ≡ false) where
+    not-below : (k : ℕ) × (x ≡ pos k)
+    not-below = from-zero x (rw (toZ-ofZ w64 x f) at h)
+      where
+        from-zero : (z : ℤ) → ltZ z (pos 0) ≡ false → (k : ℕ) × (z ≡ pos k)
+        from-zero (pos n) e = (n, refl)
+        from-zero (negsuc k) e = clash refl e
+
+    same-back : toZ w64 (ofZ w64 x) ≡ pos (not-below .0)
+    same-back = toZ-ofZ w64 x f ∙ not-below .1
+
+    pub plain : T (nonNeg (toZ w64 (ofZ w64 x))) × Fits w64 (natAbs (toZ w64 (ofZ w64 x)))
+    plain = rw same-back (tt, record { fits = let e = not-below .1 in omega (arith, rw e at (f .sfits)) })
+
+    pub decimalS-plain : decimalS (record { minus = false; size = natAbs (toZ w64 (ofZ w64 x)) }) ≡ decimalZ x
+    unfolding decimalS decimalZ
+    decimalS-plain = rw same-back (sym (ap decimalZ (not-below .1)))

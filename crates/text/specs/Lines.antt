@@ -24,6 +24,10 @@ backWord = 66 ∷ 65 ∷ 67 ∷ 75 ∷ 32 ∷ []
 abbrev itemWord : List ℕ
 itemWord = 73 ∷ 84 ∷ 69 ∷ 77 ∷ 32 ∷ []
 
+-- "SUM "
+abbrev sumWord : List ℕ
+sumWord = 83 ∷ 85 ∷ 77 ∷ 32 ∷ []
+
 -- "END "
 abbrev endWord : List ℕ
 endWord = 69 ∷ 78 ∷ 68 ∷ 32 ∷ []
@@ -54,6 +58,10 @@ undoneLine s = flatten (labelled backWord (decimal s) ∷ newline ∷ [])
 abbrev pub changeLine : ℕ → ℤ → ℤ → List ℕ
 changeLine x old new =
     flatten (labelled itemWord (decimal x) ∷ labelled space (decimalZ old) ∷ labelled space (decimalZ new) ∷ newline ∷ [])
+
+-- SUM s: the net change of the copy (document 02, request 1), given in decimal
+abbrev pub sumLine : List ℕ → List ℕ
+sumLine digits = flatten (labelled sumWord digits ∷ newline ∷ [])
 
 -- END s u a: transactions surviving (01: kept), undone (taken back), aborted (dropped)
 abbrev pub endLine : ℕ → ℕ → ℕ → List ℕ

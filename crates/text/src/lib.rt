@@ -3,12 +3,12 @@ ghost use mathlib.Core.List.{[], _∷_, flatten};
 ghost use mathlib.Core.Path.{_≡_};
 ghost use Rattle.text.specs.Puts.{labelled, Fits, Put};
 ghost use Rattle.text.specs.Decimal.{decimal, decimalZ, decimalS};
-ghost use Rattle.text.specs.Lines.{newline, countLine, undoneLine, changeLine, endLine, refusedLine};
+ghost use Rattle.text.specs.Lines.{newline, countLine, undoneLine, changeLine, sumLine, endLine, refusedLine};
 
 // A signed number, as it is printed: a sign and a size.
-struct Signed {
-    minus: bool,
-    size: u64,
+pub struct Signed {
+    pub minus: bool,
+    pub size: u64,
 }
 
 // Writes a word from `at` on, and answers where it ends.
@@ -48,20 +48,19 @@ fn put_number(out: &mut [u8], at: usize, word: &[u8], x: u64) -> usize
     put_decimal(out, a, x)
 }
 
-// An amount's sign and size.
-fn by_sign(x: i32) -> Signed
+// A number's sign and size. The lowest has a size too: 1 is added ahead of the change of sign, and 1 behind it.
+pub fn by_sign(x: i64) -> Signed
     ensures { λ r. ⌜ decimalS r ≡ decimalZ x ⌝ }
 {
-    let bits = format::bits_of(x);
-    if bits < 2147483648 {
+    if x < 0 {
         Signed {
-            minus: false,
-            size: bits as u64,
+            minus: true,
+            size: (-1 - x) as u64 + 1,
         }
     } else {
         Signed {
-            minus: true,
-            size: 4294967296 - bits as u64,
+            minus: false,
+            size: x as u64,
         }
     }
 }
@@ -208,9 +207,17 @@ pub fn put_change(out: &mut [u8], at: usize, x: u64, old: i32, new: i32) -> usiz
     requires { ⌜ Fits at (changeLine x old new) (now out) ⌝ }
     ensures { λ r. ⌜ Put at (changeLine x old new) (now (out .entry)) (now (out .exit)) r ⌝ }
 {
-    let before = by_sign(old);
-    let after = by_sign(new);
+    let before = by_sign(old as i64);
+    let after = by_sign(new as i64);
     put_number_and_amounts(out, at, b"ITEM ", x, b" ", before, b" ", after)
+}
+
+// SUM s
+pub fn put_sum(out: &mut [u8], at: usize, s: Signed) -> usize
+    requires { ⌜ Fits at (sumLine (decimalS s)) (now out) ⌝ }
+    ensures { λ r. ⌜ Put at (sumLine (decimalS s)) (now (out .entry)) (now (out .exit)) r ⌝ }
+{
+    put_one_amount(out, at, b"SUM ", s)
 }
 
 // END surviving undone aborted (document 01: kept, taken back, dropped)

@@ -6,16 +6,17 @@ use Prim.Native.Nat.{ℕ}
 use Rattle.example.specs.Example.{example}
 use Rattle.format.specs.Bytes.{entry, entries}
 use Rattle.text.specs.Decimal.{digits, decimal, decimalZ}
+use Rattle.model.specs.Net.{netChange}
 use Rattle.lines.specs.AnswerLines.{undoneIn, changeIn, lines}
 use Rattle.decode.specs.Files.{amounts, transactions}
 use Rattle.report.specs.Output.{linesOf}
 use Rattle.day_report.specs.Output.{undoFiles, reportOf}
-use Rattle.worked.specs.Reports.{table, bad, Example, PartialEntry, Refusals, Wide, Decimals}
+use Rattle.worked.specs.Reports.{table, bad, Example, Negative, PartialEntry, Refusals, Wide, EndToEnd, Decimals}
 use Rattle.days.proofs.Computed as calls
 
 -- what a report computes with: `unfolding computed` opens what its own line names
 unfoldable computed : Unit {0}
-unfolding calls.computed entry entries digits decimal decimalZ flatten undoneIn changeIn lines linesOf amounts transactions undoFiles reportOf
+unfolding calls.computed netChange entry entries digits decimal decimalZ flatten undoneIn changeIn lines linesOf amounts transactions undoFiles reportOf
 computed = tt
 
 pub decimals : Decimals
@@ -49,3 +50,11 @@ partial-entry = by-entries example _ table _ bad table-cut list-cut ∙ example-
 pub wide : Wide
 unfolding computed
 wide = refl
+
+pub negative : Negative
+unfolding computed
+negative = refl
+
+pub end-to-end : EndToEnd
+unfolding computed
+end-to-end = record { up = refl; down = refl }

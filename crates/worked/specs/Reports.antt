@@ -5,9 +5,9 @@ use mathlib.Core.List.{List, [], _∷_, _++_, flatten}
 use Prim.Native.Nat.{ℕ}
 use lib.IntN.{pos, negsuc}
 use Rattle.text.specs.Decimal.{decimal, decimalZ}
-use Rattle.example.specs.Records.{p0, p320, p1180, highest}
+use Rattle.example.specs.Records.{p0, p320, p1180, lowest, highest}
 use Rattle.example.specs.Example.{example}
-use Rattle.days.specs.Journals.{extremes}
+use Rattle.days.specs.Journals.{oneWrite, extremes}
 use Rattle.day_report.specs.Output.{reportOf}
 
 -- ---- the example
@@ -40,12 +40,37 @@ line4 = 73 ∷ 84 ∷ 69 ∷ 77 ∷ 32 ∷ 48 ∷ 32 ∷ 51 ∷ 50 ∷ 48 ∷ 32
 abbrev pub line5 : List ℕ
 line5 = 69 ∷ 78 ∷ 68 ∷ 32 ∷ 49 ∷ 32 ∷ 50 ∷ 32 ∷ 48 ∷ 10 ∷ []
 
+-- "SUM 180\n": the kept sale 3 takes item 2 from 1000 to 1180
+abbrev pub sum180 : List ℕ
+sum180 = 83 ∷ 85 ∷ 77 ∷ 32 ∷ 49 ∷ 56 ∷ 48 ∷ 10 ∷ []
+
+abbrev pub exampleText : List ℕ
+exampleText = flatten (line1 ∷ line2 ∷ line3 ∷ line4 ∷ sum180 ∷ line5 ∷ [])
+
 abbrev pub Example : Type 0
-Example = reportOf example table bad ≡ flatten (line1 ∷ line2 ∷ line3 ∷ line4 ∷ line5 ∷ [])
+Example = reportOf example table bad ≡ exampleText
+
+-- list 3: sales 1 and 2 are kept, 500 to 320, 0 to 1 and 1 to 0
+abbrev pub list3 : List (List ℕ)
+list3 =
+    -- "JOURNAL 11 COPY 8\n"
+    (74 ∷ 79 ∷ 85 ∷ 82 ∷ 78 ∷ 65 ∷ 76 ∷ 32 ∷ 49 ∷ 49 ∷ 32 ∷ 67 ∷ 79 ∷ 80 ∷ 89 ∷ 32 ∷ 56 ∷ 10 ∷ [])
+    -- "BACK 3\n"
+    ∷ (66 ∷ 65 ∷ 67 ∷ 75 ∷ 32 ∷ 51 ∷ 10 ∷ [])
+    -- "ITEM 2 1180 1000\n"
+    ∷ (73 ∷ 84 ∷ 69 ∷ 77 ∷ 32 ∷ 50 ∷ 32 ∷ 49 ∷ 49 ∷ 56 ∷ 48 ∷ 32 ∷ 49 ∷ 48 ∷ 48 ∷ 48 ∷ 10 ∷ [])
+    -- "SUM -180\n"
+    ∷ (83 ∷ 85 ∷ 77 ∷ 32 ∷ 45 ∷ 49 ∷ 56 ∷ 48 ∷ 10 ∷ [])
+    -- "END 2 1 0\n"
+    ∷ (69 ∷ 78 ∷ 68 ∷ 32 ∷ 50 ∷ 32 ∷ 49 ∷ 32 ∷ 48 ∷ 10 ∷ [])
+    ∷ []
+
+abbrev pub Negative : Type 0
+Negative = reportOf example table (3 ∷ 0 ∷ []) ≡ flatten list3
 
 -- a part of an entry behind the table and behind the list is left out
 abbrev pub PartialEntry : Type 0
-PartialEntry = reportOf example (table ++ 7 ∷ 0 ∷ 9 ∷ []) (bad ++ 3 ∷ []) ≡ flatten (line1 ∷ line2 ∷ line3 ∷ line4 ∷ line5 ∷ [])
+PartialEntry = reportOf example (table ++ 7 ∷ 0 ∷ 9 ∷ []) (bad ++ 3 ∷ []) ≡ exampleText
 
 -- ---- refusals
 
@@ -88,8 +113,26 @@ wide2 =
 abbrev pub wide3 : List ℕ
 wide3 = 69 ∷ 78 ∷ 68 ∷ 32 ∷ 48 ∷ 32 ∷ 49 ∷ 32 ∷ 48 ∷ 10 ∷ []
 
+-- "SUM 0\n": the copy has no write
+abbrev pub sum0 : List ℕ
+sum0 = 83 ∷ 85 ∷ 77 ∷ 32 ∷ 48 ∷ 10 ∷ []
+
 abbrev pub Wide : Type 0
-Wide = reportOf extremes highest bad ≡ flatten (wide1 ∷ line2 ∷ wide2 ∷ wide3 ∷ [])
+Wide = reportOf extremes highest bad ≡ flatten (wide1 ∷ line2 ∷ wide2 ∷ sum0 ∷ wide3 ∷ [])
+
+-- with an empty list it is kept: "JOURNAL 3 COPY 3\n", this sum, "END 1 0 0\n"
+abbrev pub survivingReport : List ℕ → List ℕ
+survivingReport sum =
+    flatten
+    ((74 ∷ 79 ∷ 85 ∷ 82 ∷ 78 ∷ 65 ∷ 76 ∷ 32 ∷ 51 ∷ 32 ∷ 67 ∷ 79 ∷ 80 ∷ 89 ∷ 32 ∷ 51 ∷ 10 ∷ []) ∷ sum
+    ∷ (69 ∷ 78 ∷ 68 ∷ 32 ∷ 49 ∷ 32 ∷ 48 ∷ 32 ∷ 48 ∷ 10 ∷ []) ∷ [])
+
+-- the lowest to the highest and back: "SUM 4294967295\n", "SUM -4294967295\n"
+pub record EndToEnd : Type 0 where
+  pub up : reportOf extremes highest []
+      ≡ survivingReport (83 ∷ 85 ∷ 77 ∷ 32 ∷ 52 ∷ 50 ∷ 57 ∷ 52 ∷ 57 ∷ 54 ∷ 55 ∷ 50 ∷ 57 ∷ 53 ∷ 10 ∷ [])
+  pub down : reportOf (oneWrite highest lowest) lowest []
+      ≡ survivingReport (83 ∷ 85 ∷ 77 ∷ 32 ∷ 45 ∷ 52 ∷ 50 ∷ 57 ∷ 52 ∷ 57 ∷ 54 ∷ 55 ∷ 50 ∷ 57 ∷ 53 ∷ 10 ∷ [])
 
 -- ---- decimals
 

@@ -1,10 +1,11 @@
 //! The built program on random and damaged days: what it prints is the plain implementation's
-//! report, with ragged, missing and long files among them.
+//! report, with ragged, missing and long files among them, and its sum is what the tables differ by.
 
 mod program;
 
 use plain::days::{day, Random};
 use plain::format::FILE_BYTES;
+use plain::properties::reporting::{sum_in, Sums};
 use plain::run::{is_whole, on_threads, scaled, Met, Seeds, Trying};
 use program::{printed, run, NAMES};
 
@@ -49,31 +50,38 @@ fn note_among(among: &mut Among, files: &Files) {
     among.long += u64::from((0..3).any(|i| bytes(i) > FILE_BYTES));
 }
 
-fn compared(seeds: Seeds) -> (Met, Among) {
+fn compared(seeds: Seeds) -> (Met, Among, Sums) {
     let (mut met, mut among) = (Met::default(), Among::default());
+    let mut sums = Sums::default();
     for seed in seeds {
         let _trying = Trying("report", seed);
         let files = draw_files(seed);
         let [journal, table, bad] = &files;
         let bytes = |file: &Option<Vec<u8>>| file.clone().unwrap_or_default();
         let found = printed([journal.as_deref(), table.as_deref(), bad.as_deref()]);
-        let expected = plain::report(&bytes(journal), &bytes(table), &bytes(bad));
+        let [journal, table, bad] = [journal, table, bad].map(bytes);
+        let expected = plain::report(&journal, &table, &bad);
         assert_eq!(
             String::from_utf8_lossy(&found),
             String::from_utf8_lossy(&expected)
         );
+        sum_in(&journal, &table, &bad, &found)
+            .into_iter()
+            .for_each(|sum| sums.note(sum));
         met.note_report(&found);
         note_among(&mut among, &files);
     }
-    (met, among)
+    (met, among, sums)
 }
 
 #[test]
 fn the_program_prints_the_report() {
     let days = scaled(2_000);
     let (mut met, mut among) = (Met::default(), Among::default());
-    for (part, of) in on_threads(days, compared) {
+    let mut sums = Sums::default();
+    for (part, of, summed) in on_threads(days, compared) {
         met.add(part);
+        sums.add(summed);
         among.missing += of.missing;
         among.ragged += of.ragged;
         among.long += of.long;
@@ -86,8 +94,12 @@ fn the_program_prints_the_report() {
     let line = met.line("report");
     let kinds =
         format!("{missing} with a missing file, {ragged} with a ragged, {long} with a long one");
-    print!("{days} days through the program: {kinds}\n{line}");
+    print!(
+        "{days} days through the program: {kinds}\n{line}{}",
+        sums.line()
+    );
     assert!(!is_whole() || [missing, ragged, long].iter().all(|&met| met > 50));
+    assert!(!is_whole() || sums.fewest() > 20, "{sums:?}");
 }
 
 /// A file that is there and cannot be read: no report, but a message.

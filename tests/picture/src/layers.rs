@@ -5,7 +5,7 @@ use std::collections::{BTreeMap, BTreeSet};
 use std::fmt::Write;
 
 /// What a crate holds, in a few words; one that is not here is drawn by its name alone.
-const HOLDS: [(&str, &str); 41] = [
+const HOLDS: [(&str, &str); 42] = [
     ("lists", "any list"),
     ("model", "transactions, no bytes"),
     ("example", "the example day"),
@@ -16,6 +16,7 @@ const HOLDS: [(&str, &str); 41] = [
     ("init", "start"),
     ("fields", "refusals 1, 2 and 4"),
     ("counts", "count, the tally"),
+    ("net", "the sum of the writes"),
     ("arrays", "the working arrays"),
     ("note", "a record into the arrays"),
     ("rules", "rules 6 to 9"),

@@ -1,9 +1,10 @@
-//! The plain second implementation of document 01, "The depot journal and the take-back".
+//! The plain second implementation of document 01, "The depot journal and the take-back", as
+//! document 02's requests amend it.
 //!
-//! Each function is written straight from a sentence of the document and scans the earlier
+//! Each function is written straight from a sentence of the documents and scans the earlier
 //! records wherever that is plainest. It is there to be compared with, not to be fast.
 //! `days` draws the inputs for that comparison, `compare` runs all calls over one of them.
-//! `properties` has what document 01 says of all days, for any implementation of the calls.
+//! `properties` has what the documents say of all days, for any implementation of the calls.
 //!
 //! Every call takes any bytes whatever. A refused call has written to nothing it was lent.
 

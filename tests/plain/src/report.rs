@@ -20,7 +20,11 @@ pub fn report(journal: &[u8], table: &[u8], bad: &[u8]) -> Vec<u8> {
     let mut status = [0; STATUS_BYTES];
     let mut out = [0; FILE_BYTES];
     let text = match undo(journal, &mut new, &bad, &mut status, &mut out) {
-        Ok(answer) => day_lines(&Record::decode(journal), &answer, &status, &old, &new),
+        Ok(answer) => {
+            let sum = sum_of(&out[..answer.bytes as usize]);
+            let head = Record::decode(journal);
+            day_lines(&head, &answer, &status, &old, &new, sum)
+        }
         Err(refusal) => refusal_line(refusal),
     };
     text.into_bytes()
@@ -35,8 +39,24 @@ fn refusal_line(refusal: Refusal) -> String {
     format!("REFUSED {} {}\n", refusal.number, refusal.place)
 }
 
-/// Record counts; each undone transaction; each changed item; the three counts.
-fn day_lines(head: &Record, answer: &Undone, status: &[u8], old: &[i32], new: &[i32]) -> String {
+/// The total of after less before over the writes of a repaired journal (01: copy; 02, request 1).
+fn sum_of(repaired: &[u8]) -> i64 {
+    let records = repaired.chunks(RECORD_BYTES).skip(1).map(Record::decode);
+    let writes = records.filter(Record::is_write);
+    writes
+        .map(|r| i64::from(r.after) - i64::from(r.before))
+        .sum()
+}
+
+/// Record counts; each undone transaction; each changed item; the sum; the three counts.
+fn day_lines(
+    head: &Record,
+    answer: &Undone,
+    status: &[u8],
+    old: &[i32],
+    new: &[i32],
+    sum: i64,
+) -> String {
     let repaired = answer.bytes / RECORD_BYTES as u64 - 1;
     let mut text = format!("JOURNAL {} COPY {}\n", head.next, repaired);
     for (transaction, &state) in status.iter().enumerate() {
@@ -49,6 +69,7 @@ fn day_lines(head: &Record, answer: &Undone, status: &[u8], old: &[i32], new: &[
             text += &format!("ITEM {} {} {}\n", item, old[item], new[item]);
         }
     }
+    text += &format!("SUM {sum}\n");
     let Undone {
         surviving,
         undone,

@@ -5,10 +5,30 @@ use plain::compare::{undos_in_turn, Plain};
 use plain::days::{day, undo_sequence};
 use plain::format::encode_all;
 use plain::properties::history::{whole_length, History};
+use plain::properties::reporting::{sum_of_day, Sums};
+use plain::run::{is_whole, on_threads, scaled, Trying};
 
 #[test]
 fn every_property_holds() {
     print!("{}", plain::properties::hold(&Plain));
+}
+
+#[test]
+fn the_sum_is_what_the_tables_differ_by() {
+    let mut sums = Sums::default();
+    let parts = on_threads(scaled(6_000), |seeds| {
+        let mut part = Sums::default();
+        for seed in seeds {
+            let _trying = Trying("sum", seed);
+            sum_of_day(&Plain, seed)
+                .into_iter()
+                .for_each(|sum| part.note(sum));
+        }
+        part
+    });
+    parts.into_iter().for_each(|part| sums.add(part));
+    print!("{}", sums.line());
+    assert!(!is_whole() || sums.fewest() > 100, "{sums:?}");
 }
 
 #[test]

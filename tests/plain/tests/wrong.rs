@@ -8,6 +8,7 @@ use plain::properties::cutting::*;
 use plain::properties::history::History;
 use plain::properties::loans::bytes_behind_the_last_record_do_not_matter;
 use plain::properties::posting::*;
+use plain::properties::reporting::sum_of_day;
 use plain::properties::undoing::*;
 use plain::{Refusal, Undone};
 use std::panic::{catch_unwind, AssertUnwindSafe};
@@ -94,6 +95,9 @@ impl Appending<'_> {
     }
 }
 
+/// The report on journal, table and list file.
+type Report = fn(&[u8], &[u8], &[u8]) -> Vec<u8>;
+
 /// The plain calls but for these.
 struct Wrong {
     check: fn(&[u8], &[i32]) -> Result<u32, Refusal>,
@@ -101,6 +105,7 @@ struct Wrong {
     append: fn(Appending) -> Result<(), Refusal>,
     undo: fn(Undoing) -> Result<Undone, Refusal>,
     count: fn(&[u8], &mut [u32; 4]) -> Result<(), Refusal>,
+    report: Report,
 }
 
 impl Implementation for Wrong {
@@ -161,7 +166,7 @@ impl Implementation for Wrong {
     }
 
     fn report(&self, journal: &[u8], table: &[u8], bad: &[u8]) -> Vec<u8> {
-        plain::report(journal, table, bad)
+        (self.report)(journal, table, bad)
     }
 }
 
@@ -172,6 +177,7 @@ fn right() -> Wrong {
         append: |mut given| given.right(),
         undo: |given| given.right(),
         count: plain::count_records,
+        report: plain::report,
     }
 }
 
@@ -194,6 +200,22 @@ fn count_is_seen(
     count: fn(&[u8], &mut [u32; 4]) -> Result<(), Refusal>,
 ) {
     is_seen(holds, Wrong { count, ..right() });
+}
+
+fn sum_is_seen(report: Report) {
+    let holds = |wrong: &Wrong, seed| u64::from(sum_of_day(wrong, seed).is_some());
+    is_seen(holds, Wrong { report, ..right() });
+}
+
+/// The report with another sum, if the day is accepted.
+fn with_sum(report: Vec<u8>, other: impl FnOnce(i64) -> i64) -> Vec<u8> {
+    let text = String::from_utf8(report).unwrap();
+    let Some((front, rest)) = text.split_once("SUM ") else {
+        return text.into_bytes();
+    };
+    let (sum, end) = rest.split_once('\n').unwrap();
+    let sum = other(sum.parse().unwrap());
+    format!("{front}SUM {sum}\n{end}").into_bytes()
 }
 
 fn once(names: &[u16]) -> Vec<u16> {
@@ -526,4 +548,36 @@ fn counting_where_refused() {
         plain::count_records(journal, counts)
     };
     count_is_seen(counts_are_those_of_the_kinds, clearing);
+}
+
+#[test]
+fn summing_before_less_after() {
+    let turned = |journal: &[u8], table: &[u8], bad: &[u8]| {
+        with_sum(plain::report(journal, table, bad), |sum| -sum)
+    };
+    sum_is_seen(turned);
+}
+
+#[test]
+fn summing_the_writes_of_the_journal() {
+    let whole = |journal: &[u8], table: &[u8], bad: &[u8]| {
+        with_sum(plain::report(journal, table, bad), |_| {
+            let records = History::of(journal).records;
+            let writes = records.iter().filter(|r| r.is_write());
+            writes
+                .map(|r| i64::from(r.after) - i64::from(r.before))
+                .sum()
+        })
+    };
+    sum_is_seen(whole);
+}
+
+#[test]
+fn summing_in_32_bits() {
+    let narrow = |journal: &[u8], table: &[u8], bad: &[u8]| {
+        with_sum(plain::report(journal, table, bad), |sum| {
+            i64::from(sum as i32)
+        })
+    };
+    sum_is_seen(narrow);
 }

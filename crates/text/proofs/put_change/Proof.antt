@@ -2,16 +2,16 @@
 -- Assumes nothing.
 use mathlib.Core.Path.{_≡_, ap, _∙_}
 use borrow.Author.Needs.{needs}
-use Rattle.format.proofs.BytesLaws.{amount-bits}
+use Rattle.format.proofs.Twos.{widened, read-back}
 use Rattle.text.specs.Decimal.{decimalZ, decimalS}
 use Rattle.text.proofs.put_change.Statement.{statement}
 use Rattle.text.proofs.put_change.Tie as tie
 
 old-is : (c : tie.After-by-sign) → decimalS (c .by-sign .result) ≡ decimalZ (c .before .before .args .old)
-old-is c = c .by-sign .ensures ∙ ap decimalZ (amount-bits (c .before .before .fits .old))
+old-is c = c .by-sign .ensures ∙ ap decimalZ (read-back _ (c .before .before .fits .old))
 
 new-is : (c : tie.After-by-sign2) → decimalS (c .by-sign2 .result) ≡ decimalZ (c .before .before .before .args .new)
-new-is c = c .by-sign2 .ensures ∙ ap decimalZ (amount-bits (c .before .before .before .fits .new))
+new-is c = c .by-sign2 .ensures ∙ ap decimalZ (read-back _ (c .before .before .before .fits .new))
 
 put-number-and-amounts-requires : tie.Need-put-number-and-amounts-requires
 put-number-and-amounts-requires c κs =
@@ -31,11 +31,13 @@ pub put-change-spec : {M : Type 1} → statement M
 put-change-spec =
     tie.close
     (tie.spec
-    (search needs)
-    (search needs)
-    (search needs)
-    (search needs)
-    (search needs)
+    (λ c. search widened)
+    (λ c κs. search needs)
+    (λ c. search widened)
+    (λ c κs. search needs)
+    (λ c. search needs)
+    (λ c. search needs)
+    (λ c. search needs)
     put-number-and-amounts-requires
-    (search needs)
+    (λ c. search needs)
     returns)

@@ -1,4 +1,4 @@
-//! What document 01 says of all days, as properties of an implementation. Each is tried on the
+//! What documents 01 and 02 say of all days, as properties of an implementation. Each is tried on the
 //! inputs of one seed; it panics where it does not hold, and answers how many cases it tried.
 
 pub mod counting;
@@ -6,6 +6,7 @@ pub mod cutting;
 pub mod history;
 pub mod loans;
 pub mod posting;
+pub mod reporting;
 pub mod undoing;
 
 use crate::compare::Implementation;

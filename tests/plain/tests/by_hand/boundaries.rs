@@ -119,7 +119,7 @@ fn extreme_amounts() {
     let lines = [read(1, 0), write(1, 0, i32::MAX, i32::MIN), commit(1)];
     assert_eq!(
         report(&journal(1, &lines), &i32::MIN.to_le_bytes(), &[1, 0]),
-        b"JOURNAL 3 COPY 0\nBACK 1\nITEM 0 -2147483648 2147483647\nEND 0 1 0\n"
+        b"JOURNAL 3 COPY 0\nBACK 1\nITEM 0 -2147483648 2147483647\nSUM 0\nEND 0 1 0\n"
     );
 }
 
@@ -221,7 +221,7 @@ fn the_program_reads_64020_bytes() {
     for _ in 0..32_010 {
         bad.extend([1, 0]);
     }
-    let text = b"JOURNAL 3200 COPY 0\nBACK 1\nEND 0 1 0\n";
+    let text = b"JOURNAL 3200 COPY 0\nBACK 1\nSUM 0\nEND 0 1 0\n";
     assert_eq!(report(&bytes, &[0; 4], &bad), text);
     bad.extend([9, 0]);
     assert_eq!(report(&bytes, &[0; 4], &bad), text);

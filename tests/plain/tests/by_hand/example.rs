@@ -78,7 +78,7 @@ fn example_with_empty_list() {
 
 #[test]
 fn example_printed() {
-    let text = "JOURNAL 11 COPY 3\nBACK 1\nBACK 2\nITEM 0 320 500\nEND 1 2 0\n";
+    let text = "JOURNAL 11 COPY 3\nBACK 1\nBACK 2\nITEM 0 320 500\nSUM 180\nEND 1 2 0\n";
     assert_eq!(report(&EXAMPLE, &TABLE_FILE, &[1, 0]), text.as_bytes());
 }
 
@@ -87,17 +87,86 @@ fn example_printed_with_other_lists() {
     let printed = |bad: &[u8]| String::from_utf8(report(&EXAMPLE, &TABLE_FILE, bad)).unwrap();
     assert_eq!(
         printed(&[3, 0]),
-        "JOURNAL 11 COPY 8\nBACK 3\nITEM 2 1180 1000\nEND 2 1 0\n"
+        "JOURNAL 11 COPY 8\nBACK 3\nITEM 2 1180 1000\nSUM -180\nEND 2 1 0\n"
     );
     assert_eq!(
         printed(&[2, 0]),
-        "JOURNAL 11 COPY 8\nBACK 2\nITEM 1 0 1\nEND 2 1 0\n"
+        "JOURNAL 11 COPY 8\nBACK 2\nITEM 1 0 1\nSUM 1\nEND 2 1 0\n"
     );
-    assert_eq!(printed(&[]), "JOURNAL 11 COPY 11\nEND 3 0 0\n");
+    assert_eq!(printed(&[]), "JOURNAL 11 COPY 11\nSUM 0\nEND 3 0 0\n");
+    // Nothing is left.
+    assert_eq!(
+        printed(&[3, 0, 1, 0]),
+        "JOURNAL 11 COPY 0\nBACK 1\nBACK 2\nBACK 3\nITEM 0 320 500\nITEM 2 1180 1000\nSUM 0\nEND 0 3 0\n"
+    );
     assert_eq!(printed(&[3, 0, 4, 0]), "REFUSED 12 1\n");
     assert_eq!(
         printed(&[3, 0, 4]),
-        "JOURNAL 11 COPY 8\nBACK 3\nITEM 2 1180 1000\nEND 2 1 0\n"
+        "JOURNAL 11 COPY 8\nBACK 3\nITEM 2 1180 1000\nSUM -180\nEND 2 1 0\n"
+    );
+}
+
+/// What a copy does not have does not count: writes taken back, and writes rolled back.
+#[test]
+fn sum_of_a_copy_without_writes() {
+    let lines = [
+        read(1, 0),
+        write(1, 0, 500, 320),
+        commit(1),
+        read(2, 1),
+        write(2, 1, 7, 9),
+        abort(2),
+        read(3, 1),
+        commit(3),
+    ];
+    let table = [320i32, 7].map(i32::to_le_bytes).concat();
+    assert_eq!(
+        report(&journal(2, &lines), &table, &[1, 0]),
+        b"JOURNAL 8 COPY 2\nBACK 1\nITEM 0 320 500\nSUM 0\nEND 1 1 1\n"
+    );
+    assert_eq!(
+        report(&journal(2, &lines), &table, &[]),
+        b"JOURNAL 8 COPY 5\nSUM -180\nEND 2 0 1\n"
+    );
+    assert_eq!(
+        report(&journal(2, &lines[6..]), &table, &[]),
+        b"JOURNAL 2 COPY 2\nSUM 0\nEND 1 0 0\n"
+    );
+}
+
+/// Each sale takes an item of its own from one end of the amounts to the other.
+fn printed_from_end_to_end(sales: u16, before: i32, after: i32) -> String {
+    let mut lines = vec![];
+    for sale in 1..=sales {
+        let item = u32::from(sale) - 1;
+        lines.extend([read(sale, item), write(sale, item, before, after)]);
+        lines.push(commit(sale));
+    }
+    let bytes = journal(u32::from(sales), &lines);
+    let table = after.to_le_bytes().repeat(usize::from(sales));
+    String::from_utf8(report(&bytes, &table, &[])).unwrap()
+}
+
+#[test]
+fn sum_from_end_to_end() {
+    const LOWEST: i32 = -2_147_483_648;
+    const HIGHEST: i32 = 2_147_483_647;
+    assert_eq!(
+        printed_from_end_to_end(1, LOWEST, HIGHEST),
+        "JOURNAL 3 COPY 3\nSUM 4294967295\nEND 1 0 0\n"
+    );
+    assert_eq!(
+        printed_from_end_to_end(1, HIGHEST, LOWEST),
+        "JOURNAL 3 COPY 3\nSUM -4294967295\nEND 1 0 0\n"
+    );
+    // 1,024 times as much.
+    assert_eq!(
+        printed_from_end_to_end(1_024, LOWEST, HIGHEST),
+        "JOURNAL 3072 COPY 3072\nSUM 4398046510080\nEND 1024 0 0\n"
+    );
+    assert_eq!(
+        printed_from_end_to_end(1_024, HIGHEST, LOWEST),
+        "JOURNAL 3072 COPY 3072\nSUM -4398046510080\nEND 1024 0 0\n"
     );
 }
 
@@ -107,7 +176,7 @@ fn missing_files_are_empty() {
     assert_eq!(report(&EXAMPLE, &[], &[1, 0]), b"REFUSED 3 0\n");
     assert_eq!(
         report(&EXAMPLE, &TABLE_FILE, &[]),
-        b"JOURNAL 11 COPY 11\nEND 3 0 0\n"
+        b"JOURNAL 11 COPY 11\nSUM 0\nEND 3 0 0\n"
     );
 }
 
@@ -118,7 +187,7 @@ fn files_end_in_part_of_an_entry() {
         table.extend(vec![0xFF; more]);
         let mut bad = vec![1, 0];
         bad.push(0xFF);
-        let text = b"JOURNAL 11 COPY 3\nBACK 1\nBACK 2\nITEM 0 320 500\nEND 1 2 0\n";
+        let text = b"JOURNAL 11 COPY 3\nBACK 1\nBACK 2\nITEM 0 320 500\nSUM 180\nEND 1 2 0\n";
         assert_eq!(report(&EXAMPLE, &table, &bad), text);
     }
     assert_eq!(

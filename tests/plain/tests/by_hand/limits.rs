@@ -79,7 +79,7 @@ fn bytes_19_and_20() {
     assert_eq!(report(&head[..19], &[0; 4], &[]), b"REFUSED 1 0\n");
     assert_eq!(
         report(&head, &[0; 4], &[]),
-        b"JOURNAL 0 COPY 0\nEND 0 0 0\n"
+        b"JOURNAL 0 COPY 0\nSUM 0\nEND 0 0 0\n"
     );
     for length in [20, 21, 64_020, 64_021] {
         let mut bytes = vec![0xAA; length];
@@ -113,7 +113,7 @@ fn records_3200_and_3201() {
     assert_eq!(undo(&last, &table, &[1_024]), Ok(counts(0, 1, 0, 20)));
     assert_eq!(
         report(&last, &vec![7; 4 * 1_024], &[0, 4]),
-        b"JOURNAL 3200 COPY 0\nBACK 1024\nEND 0 1 0\n"
+        b"JOURNAL 3200 COPY 0\nBACK 1024\nSUM 0\nEND 0 1 0\n"
     );
     all_refuse(&long(3_201), &table, 2, 0);
     all_refuse(&long(3_201)[..20], &table, 2, 0);

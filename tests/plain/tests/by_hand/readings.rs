@@ -244,7 +244,7 @@ fn undo_answers_bytes_and_the_program_records() {
 fn lines_of_the_program() {
     let lines = [read(7, 0), write(7, 0, -5, -6), commit(7), abort(8)];
     let table = (-6i32).to_le_bytes();
-    let text = b"JOURNAL 4 COPY 0\nBACK 7\nITEM 0 -6 -5\nEND 0 1 1\n";
+    let text = b"JOURNAL 4 COPY 0\nBACK 7\nITEM 0 -6 -5\nSUM 0\nEND 0 1 1\n";
     let bytes = journal(1, &lines);
     assert_eq!(report(&bytes, &table, &[7, 0]), text);
     // The journal file is not cut to whole records.

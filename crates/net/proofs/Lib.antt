@@ -1,0 +1,4 @@
+pub mod Size
+pub mod Sum
+pub mod NetRecords
+pub mod NetHead
