@@ -1,7 +1,7 @@
--- Rules 6 to 9 of a record, decided from what the working arrays hold.
+-- Rules 6 to 9 of an operation and of a record, decided from what the working arrays hold.
 -- Assumes nothing.
 use mathlib.Core.Path.{_≡_, refl, sym, _∙_, ap}
-use mathlib.Core.Bool.{Bool, true, false, cond, not, _&&_, Bool·not-not}
+use mathlib.Core.Bool.{Bool, true, false, cond, not, Bool·not-not}
 use mathlib.Core.List.{List}
 use mathlib.Core.Option.{Option, none, some}
 use Prim.Native.Nat.{ℕ, _+_, _<_}
@@ -16,7 +16,7 @@ use mir.ValLaws.{toZ-ofZ}
 use Rattle.lists.specs.Search.{any, orElse}
 use Rattle.lists.proofs.SearchLaws.{latest-passes, any-latest, latest-none}
 use Rattle.format.specs.declared.Record.{Record}
-use Rattle.model.specs.History.{Op, History, Amount, sameAmount, commit, abort, other, writeTo, ended, standing}
+use Rattle.model.specs.History.{Op, History, Amount, Tag, sameAmount, read, write, commit, abort, other, txOf, writeTo, ended, standing}
 use Rattle.model.specs.Rules as rules
 use Rattle.journal.specs.Journal.{items, txIn, opOf, history}
 use Rattle.journal.specs.Refusals.{malformed, terminated, conflicting, blind, mismatched}
@@ -41,8 +41,12 @@ use Rattle.rules.proofs.Recent.{open-reads, other-writer, other-access}
 abbrev pub at : ℕ → ℕ → Option Refusal
 at k i = some (record { number = k; place = i })
 
+-- 7 to 9 of an operation, by their conditions
+abbrev later : Bool → Bool → Bool → ℕ → Option Refusal
+later c b m i = orElse (cond c (at 7 i) none) (orElse (cond b (at 8 i) none) (cond m (at 9 i) none))
+
 rule-parts : (p : History) (i : ℕ) (o : Op)
-    → decide (ruleOrder p i o) ≡ orElse (cond (terminated p o) (at 6 i) none) (orElse (cond (conflicting p o) (at 7 i) none) (orElse (cond (blind p o) (at 8 i) none) (cond (mismatched p o) (at 9 i) none)))
+    → decide (ruleOrder p i o) ≡ orElse (cond (terminated p o) (at 6 i) none) (later (conflicting p o) (blind p o) (mismatched p o) i)
 unfolding ruleOrder accessOrder
 rule-parts p i o = simp (decide-turn, decide-over, decide-try, orElse-none, orElse-assoc)
 
@@ -51,92 +55,122 @@ rule-parts p i o = simp (decide-turn, decide-over, decide-try, orElse-none, orEl
 pub no-end : (m : List ℕ) (s end : ℕ) → end ≡ getD m s 0 → end ≡ 0 → getD m s 0 ≡ 0
 no-end m s end q z = sym q ∙ z
 
-module _ (b : List ℕ) (n : ℕ) (r : Record) (k : Ready b n) (f : malformed (items b) r ≡ false) where
-  pub tx-in : (m : List ℕ) → m ≡ endsOf (history b n) → txIn r < length m
-  tx-in m e = let a = formed-range (items b) r f in rw (e, ends-array (history b n) .size) (omega arith)
+-- operations of transaction s
+module _ (b : List ℕ) (n s : ℕ) (k : Ready b n) (l : s < 1025) (m : List ℕ) (g : m ≡ endsOf (history b n)) where
+  end-is : getD m s 0 ≡ endCode (history b n) s
+  end-is = rw (g, ends-array (history b n) .at s 0 l)
 
-  module _ (m : List ℕ) (g : m ≡ endsOf (history b n)) where
-    end-is : getD m (txIn r) 0 ≡ endCode (history b n) (txIn r)
-    end-is = let a = formed-range (items b) r f in rw (g, ends-array (history b n) .at (txIn r) 0 (omega arith))
+  terminated-is : (o : Op) → txOf o ≡ s → terminated (history b n) o ≡ not (eqb (getD m s 0) 0)
+  unfolding terminated
+  terminated-is o w = rw (w, end-is) (ended-code (history b n) s)
 
-    terminated-is : terminated (history b n) (opOf (n + 1) r) ≡ not (eqb (getD m (txIn r) 0) 0)
-    unfolding terminated
-    terminated-is = rw (txOf-opOf (n + 1) r, end-is) (ended-code (history b n) (txIn r))
+  -- s has not ended
+  module _ (z : getD m s 0 ≡ 0) where
+    unended : ended (history b n) s ≡ false
+    unended = ended-code (history b n) s ∙ rw (← end-is, z)
 
-    -- 6
-    pub rule-terminated : (end : ℕ) → end ≡ getD m (txIn r) 0 → (end ≡ 0 → ⊥) → at 6 (n + 1) ≡ decide (ruleOrder (history b n) (n + 1) (opOf (n + 1) r))
-    rule-terminated end q z = rw (rule-parts (history b n) (n + 1) (opOf (n + 1) r), terminated-is, ← q, ne-eqb end 0 z)
+    rest : (o : Op) → txOf o ≡ s
+        → decide (ruleOrder (history b n) (n + 1) o) ≡ later (conflicting (history b n) o) (blind (history b n) o) (mismatched (history b n) o) (n + 1)
+    rest o w = rw (rule-parts (history b n) (n + 1) o, terminated-is o w, z)
 
-    module _ (z : getD m (txIn r) 0 ≡ 0) where
-      unended : ended (history b n) (txIn r) ≡ false
-      unended = ended-code (history b n) (txIn r) ∙ rw (← end-is, z)
-
-      rest : decide (ruleOrder (history b n) (n + 1) (opOf (n + 1) r))
-          ≡ orElse (cond (conflicting (history b n) (opOf (n + 1) r)) (at 7 (n + 1)) none) (orElse (cond (blind (history b n) (opOf (n + 1) r)) (at 8 (n + 1)) none) (cond (mismatched (history b n) (opOf (n + 1) r)) (at 9 (n + 1)) none))
-      rest = rw (rule-parts (history b n) (n + 1) (opOf (n + 1) r), terminated-is, z)
-
+    module _ (x : ℕ) (t : Touched) (w : t ≡ writerOf (history b n) s x) where
       -- a read
-      module _ (e : r .kind ≡ 1) (t : Touched) (w : t ≡ writerOf (history b n) (txIn r) (r .item .0)) where
-        read-rest : decide (ruleOrder (history b n) (n + 1) (opOf (n + 1) r)) ≡ cond (t .other) (at 7 (n + 1)) none
-        unfolding conflicting blind mismatched writerOf
-        read-rest =
-            rw (rest, opOf-read (n + 1) r e, other-writer (history b n) (passing-history b n (k .passed)) (txIn r) (r .item .0), w)
-            (orElse-none (cond (byOtherActive (history b n) (txIn r) (lastWrite (history b n) (r .item .0))) (at 7 (n + 1)) none))
+      read-rest : decide (ruleOrder (history b n) (n + 1) (read (n + 1) s x)) ≡ cond (t .other) (at 7 (n + 1)) none
+      unfolding conflicting blind mismatched writerOf
+      read-rest =
+          rw (rest (read (n + 1) s x) refl, other-writer (history b n) (passing-history b n (k .passed)) s x, w)
+          (orElse-none (cond (byOtherActive (history b n) s (lastWrite (history b n) x)) (at 7 (n + 1)) none))
 
-        pub read-conflict : t .other ≡ true → at 7 (n + 1) ≡ decide (ruleOrder (history b n) (n + 1) (opOf (n + 1) r))
-        read-conflict h = rw (read-rest, h)
+      pub read-conflict : t .other ≡ true → at 7 (n + 1) ≡ decide (ruleOrder (history b n) (n + 1) (read (n + 1) s x))
+      read-conflict h = rw (read-rest, h)
 
-        pub read-passed : t .other ≡ false → none ≡ decide (ruleOrder (history b n) (n + 1) (opOf (n + 1) r))
-        read-passed h = rw (read-rest, h)
+      pub read-passed : t .other ≡ false → none ≡ decide (ruleOrder (history b n) (n + 1) (read (n + 1) s x))
+      read-passed h = rw (read-rest, h)
 
       -- a write
-      module _ (e : r .kind ≡ 2) (t u : Touched) (w : t ≡ writerOf (history b n) (txIn r) (r .item .0)) (v : u ≡ readersOf (history b n) (txIn r) (r .item .0) t) where
-        conflict-is : conflicting (history b n) (opOf (n + 1) r) ≡ u .other
+      module _ (u : Touched) (v : u ≡ readersOf (history b n) s x t) (d a : Amount) where
+        abbrev o : Op
+        o = write (n + 1) s x d a
+
+        conflict-is : conflicting (history b n) o ≡ u .other
         unfolding conflicting writerOf readersOf
-        conflict-is = rw (opOf-write (n + 1) r e, v, w) (other-access (history b n) (passing-history b n (k .passed)) (txIn r) (r .item .0))
+        conflict-is = rw (v, w) (other-access (history b n) (passing-history b n (k .passed)) s x)
 
-        blind-is : NoBlindTo b n → blind (history b n) (opOf (n + 1) r) ≡ not (u .own)
+        blind-is : NoBlindTo b n → blind (history b n) o ≡ not (u .own)
         unfolding blind writerOf readersOf
-        blind-is g = rw (opOf-write (n + 1) r e, v, w) (ap not (open-reads (r .item .0) (txIn r) (history b n) (passing-history b n (k .passed)) (noBlind-history b n g) unended))
+        blind-is f = rw (v, w) (ap not (open-reads x s (history b n) (passing-history b n (k .passed)) (noBlind-history b n f) unended))
 
-        mismatched-is : mismatched (history b n) (opOf (n + 1) r) ≡ any (writeTo (r .item .0)) (history b n) && not (sameAmount (r .before) (standing (pos 0) (history b n) (r .item .0)))
-        unfolding mismatched
-        mismatched-is = rw (opOf-write (n + 1) r e)
+        pub write-conflict : u .other ≡ true → at 7 (n + 1) ≡ decide (ruleOrder (history b n) (n + 1) o)
+        write-conflict h = rw (rest o refl, conflict-is, h)
 
-        pub write-conflict : u .other ≡ true → at 7 (n + 1) ≡ decide (ruleOrder (history b n) (n + 1) (opOf (n + 1) r))
-        write-conflict h = rw (rest, conflict-is, h)
+        module _ (h : u .other ≡ false) (f : NoBlindTo b n) where
+          pub write-blind : u .own ≡ false → at 8 (n + 1) ≡ decide (ruleOrder (history b n) (n + 1) o)
+          write-blind e = rw (rest o refl, conflict-is, h, blind-is f, e)
 
-        module _ (h : u .other ≡ false) (d : NoBlindTo b n) where
-          pub write-blind : u .own ≡ false → at 8 (n + 1) ≡ decide (ruleOrder (history b n) (n + 1) (opOf (n + 1) r))
-          write-blind o = rw (rest, conflict-is, h, blind-is d, o)
+          pub write-matched : u .own ≡ true → mismatched (history b n) o ≡ false → none ≡ decide (ruleOrder (history b n) (n + 1) o)
+          write-matched e y = rw (rest o refl, conflict-is, h, blind-is f, e, y)
 
-          pub write-matched : u .own ≡ true → mismatched (history b n) (opOf (n + 1) r) ≡ false → none ≡ decide (ruleOrder (history b n) (n + 1) (opOf (n + 1) r))
-          write-matched o x = rw (rest, conflict-is, h, blind-is d, o, x)
+          -- d compared with the standing amount, read back from its bits
+          module _ (e : u .own ≡ true) (p : Bool) (i : SFits w32 d) (q : p ≡ not (unlikeStanding (history b n) x (toZ w32 (ofZ w32 d)))) where
+            last-is : decide (ruleOrder (history b n) (n + 1) o) ≡ cond (unlikeStanding (history b n) x d) (at 9 (n + 1)) none
+            unfolding unlikeStanding mismatched
+            last-is = rw (rest o refl, conflict-is, h, blind-is f, e)
 
-          module _ (o : u .own ≡ true) (p : Bool) (q : p ≡ not (unlikeStanding (history b n) (r .item .0) (r .before))) where
-            last-is : decide (ruleOrder (history b n) (n + 1) (opOf (n + 1) r)) ≡ cond (unlikeStanding (history b n) (r .item .0) (r .before)) (at 9 (n + 1)) none
-            unfolding unlikeStanding
-            last-is = rw (rest, conflict-is, h, blind-is d, o, mismatched-is)
+            unlike : p ≡ not (unlikeStanding (history b n) x d)
+            unlike = rw (toZ-ofZ w32 d i) at q
 
-            pub write-right : p ≡ true → none ≡ decide (ruleOrder (history b n) (n + 1) (opOf (n + 1) r))
-            write-right x = rw (last-is, not-true (unlikeStanding (history b n) (r .item .0) (r .before)) (sym q ∙ x))
+            pub write-right : p ≡ true → none ≡ decide (ruleOrder (history b n) (n + 1) o)
+            write-right y = rw (last-is, not-true (unlikeStanding (history b n) x d) (sym unlike ∙ y))
 
-            pub write-wrong : p ≡ false → at 9 (n + 1) ≡ decide (ruleOrder (history b n) (n + 1) (opOf (n + 1) r))
-            write-wrong x = rw (last-is, not-false (unlikeStanding (history b n) (r .item .0) (r .before)) (sym q ∙ x))
+            pub write-wrong : p ≡ false → at 9 (n + 1) ≡ decide (ruleOrder (history b n) (n + 1) o)
+            write-wrong y = rw (last-is, not-false (unlikeStanding (history b n) x d) (sym unlike ∙ y))
 
-    -- an end
-    pub rule-end : (end : ℕ) → end ≡ getD m (txIn r) 0 → end ≡ 0 → (r .kind ≡ 1 → ⊥) → (r .kind ≡ 2 → ⊥) → none ≡ decide (ruleOrder (history b n) (n + 1) (opOf (n + 1) r))
-    unfolding opOf conflicting blind mismatched
-    rule-end end q z c d = rw (rest (sym q ∙ z), ne-eqb (r .kind) 1 c, ne-eqb (r .kind) 2 d) (two (eqb (r .kind) 3) (eqb (r .kind) 4))
-      where
-        of : Bool → Bool → Op
-        of e g = cond e (commit (n + 1) (txIn r)) (cond g (abort (n + 1) (txIn r)) (other (n + 1) (txIn r)))
+-- of a record that is not malformed
+module _ (b : List ℕ) (n : ℕ) (r : Record) (k : Ready b n) (f : malformed (items b) r ≡ false) where
+  pub tx-low : txIn r < 1025
+  tx-low = let a = formed-range (items b) r f in omega arith
 
-        two : (e g : Bool)
-            → none ≡ orElse (cond (rules.conflicting (history b n) (of e g)) (at 7 (n + 1)) none) (orElse (cond (rules.blind (history b n) (of e g)) (at 8 (n + 1)) none) (cond (rules.mismatched (history b n) (of e g)) (at 9 (n + 1)) none))
-        two true g = refl
-        two false true = refl
-        two false false = refl
+  module _ (m : List ℕ) (g : m ≡ endsOf (history b n)) where
+    pub tx-in : txIn r < length m
+    tx-in = rw (g, ends-array (history b n) .size) tx-low
+
+    module _ (end : ℕ) (q : end ≡ getD m (txIn r) 0) where
+      -- 6
+      pub rule-terminated : (end ≡ 0 → ⊥) → at 6 (n + 1) ≡ decide (ruleOrder (history b n) (n + 1) (opOf (n + 1) r))
+      rule-terminated z =
+          rw (rule-parts (history b n) (n + 1) (opOf (n + 1) r), terminated-is b n (txIn r) k tx-low m g (opOf (n + 1) r) (txOf-opOf (n + 1) r), ← q, ne-eqb end 0 z)
+
+      -- an end
+      pub rule-end : end ≡ 0 → (r .kind ≡ 1 → ⊥) → (r .kind ≡ 2 → ⊥) → none ≡ decide (ruleOrder (history b n) (n + 1) (opOf (n + 1) r))
+      unfolding opOf conflicting blind mismatched
+      rule-end z c d =
+          rw (rest b n (txIn r) k tx-low m g (sym q ∙ z) (opOf (n + 1) r) (txOf-opOf (n + 1) r), ne-eqb (r .kind) 1 c, ne-eqb (r .kind) 2 d)
+          (two (eqb (r .kind) 3) (eqb (r .kind) 4))
+        where
+          of : Bool → Bool → Op
+          of e g = cond e (commit (n + 1) (txIn r)) (cond g (abort (n + 1) (txIn r)) (other (n + 1) (txIn r)))
+
+          two : (e g : Bool)
+              → none ≡ later (rules.conflicting (history b n) (of e g)) (rules.blind (history b n) (of e g)) (rules.mismatched (history b n) (of e g)) (n + 1)
+          two true g = refl
+          two false true = refl
+          two false false = refl
+
+-- what is found of the read or the write that a record is, is found of the record
+module _ (p : History) (i : Tag) (r : Record) (v : Option Refusal) where
+  pub of-read : r .kind ≡ 1 → v ≡ decide (ruleOrder p i (read i (txIn r) (r .item .0))) → v ≡ decide (ruleOrder p i (opOf i r))
+  of-read e h = h ∙ rw (opOf-read i r e)
+
+  module _ (e : r .kind ≡ 2) where
+    pub of-write : SFits w32 (r .before)
+        → ((a : Amount) → v ≡ decide (ruleOrder p i (write i (txIn r) (r .item .0) (toZ w32 (ofZ w32 (r .before))) a)))
+        → v ≡ decide (ruleOrder p i (opOf i r))
+    of-write f h = h (r .after) ∙ rw (toZ-ofZ w32 (r .before) f, opOf-write i r e)
+
+    pub of-matched : mismatched p (opOf i r) ≡ false
+        → ((d a : Amount) → mismatched p (write i (txIn r) (r .item .0) d a) ≡ false → v ≡ decide (ruleOrder p i (write i (txIn r) (r .item .0) d a)))
+        → v ≡ decide (ruleOrder p i (opOf i r))
+    of-matched f h = h (r .before) (r .after) (rw (opOf-write i r e) at f) ∙ rw (opOf-write i r e)
 
 -- ---- rule 9
 

@@ -4,8 +4,8 @@ ghost use mathlib.Core.Bool.{false, not};
 ghost use Prim.Native.Nat.{_+_, _<_};
 ghost use lib.IntN.{pos};
 ghost use lib.ListN.{getD};
-ghost use Rattle.format.specs.Limits.{maxItems};
-ghost use Rattle.model.specs.History.{standing};
+ghost use Rattle.format.specs.Limits.{maxItems, transactionSlots};
+ghost use Rattle.model.specs.History.{Amount, read, write, standing};
 ghost use Rattle.journal.specs.Journal.{items, opOf, history};
 ghost use Rattle.journal.specs.Refusals.{malformed, mismatched};
 ghost use Rattle.journal.specs.Orders.{decide, ruleOrder};
@@ -84,35 +84,43 @@ pub fn standing_at(
     }
 }
 
-// Rule 9 of a write: its item has no earlier write, or before is its standing amount.
+// Rule 9 of a write of item x: the item has no earlier write, or before is its standing amount.
 fn matches_standing(
     journal: &[u8],
     n: u32,
     ends: &[u8],
     writes: &[u32],
     bases: &[u32],
-    r: Record,
+    x: Key,
+    before: i32,
 ) -> bool
     requires { ⌜ Ready (now journal) n × IsEnds (now journal) n (now ends) × IsWrites (now journal) n (now writes)
-        × IsBases (now journal) n (now bases) × (r .item .0 < maxItems) ⌝ }
-    ensures { λ h. ⌜ h ≡ not (unlikeStanding (history (now (journal .entry)) n) (r .item .0) (r .before)) ⌝ }
+        × IsBases (now journal) n (now bases) × (x .0 < maxItems) ⌝ }
+    ensures { λ h. ⌜ h ≡ not (unlikeStanding (history (now (journal .entry)) n) (x .0) before) ⌝ }
 {
-    let w = lsn_at(writes, r.item);
+    let w = lsn_at(writes, x);
     if w.0 == 0 {
         return true;
     }
-    let amount = standing_at(journal, n, ends, writes, bases, r.item);
-    same(r.before, amount)
+    let amount = standing_at(journal, n, ends, writes, bases, x);
+    same(before, amount)
 }
 
-// Rules 7 to 9 of a read, record n + 1, after the first n records.
-fn judge_read(journal: &[u8], n: u32, ends: &[u8], writes: &[u32], r: Record) -> Verdict
+// Rules 7 to 9 of a read of item x by s, record n + 1, after the first n records; s has not ended.
+fn judge_read(
+    journal: &[u8],
+    n: u32,
+    ends: &[u8],
+    writes: &[u32],
+    x: Key,
+    s: TransactionId,
+) -> Verdict
     requires { ⌜ Ready (now journal) n × IsEnds (now journal) n (now ends) × IsWrites (now journal) n (now writes)
-        × (malformed (items (now journal)) r ≡ false) × (r .kind ≡ 1) × (getD (now ends) (r .transaction .0) 0 ≡ 0) ⌝ }
-    ensures { λ v. ⌜ verdictOf v ≡ decide (ruleOrder (history (now (journal .entry)) n) (n + 1) (opOf (n + 1) r)) ⌝ }
+        × (x .0 < maxItems) × (s .0 < transactionSlots) × (getD (now ends) (s .0) 0 ≡ 0) ⌝ }
+    ensures { λ v. ⌜ verdictOf v ≡ decide (ruleOrder (history (now (journal .entry)) n) (n + 1) (read (n + 1) (s .0) (x .0))) ⌝ }
 {
     let i = Lsn(n + 1);
-    let writer = last_writer(journal, n, ends, writes, r.item, r.transaction);
+    let writer = last_writer(journal, n, ends, writes, x, s);
     if writer.other {
         Verdict::Refused(Reason::Conflict(i))
     } else {
@@ -120,7 +128,7 @@ fn judge_read(journal: &[u8], n: u32, ends: &[u8], writes: &[u32], r: Record) ->
     }
 }
 
-// Rules 7 to 9 of a write.
+// Rules 7 to 9 of a write of item x by s; s has not ended.
 fn judge_write(
     journal: &[u8],
     n: u32,
@@ -129,31 +137,24 @@ fn judge_write(
     bases: &[u32],
     reads: &[u32],
     links: &[u32],
-    r: Record,
+    x: Key,
+    s: TransactionId,
+    before: i32,
 ) -> Verdict
     requires { ⌜ Ready (now journal) n × IsEnds (now journal) n (now ends) × IsWrites (now journal) n (now writes)
         × IsBases (now journal) n (now bases) × IsReads (now journal) n (now reads) × Linked (now journal) n (now links)
-        × (malformed (items (now journal)) r ≡ false) × (r .kind ≡ 2) × (getD (now ends) (r .transaction .0) 0 ≡ 0)
-        × NoBlindTo (now journal) n ⌝ }
-    ensures { λ v. ⌜ verdictOf v ≡ decide (ruleOrder (history (now (journal .entry)) n) (n + 1) (opOf (n + 1) r)) ⌝ }
+        × (x .0 < maxItems) × (s .0 < transactionSlots) × (getD (now ends) (s .0) 0 ≡ 0) × NoBlindTo (now journal) n ⌝ }
+    ensures { λ v. ⌜ ((after : Amount) → verdictOf v
+        ≡ decide (ruleOrder (history (now (journal .entry)) n) (n + 1) (write (n + 1) (s .0) (x .0) before after))) ⌝ }
 {
     let i = Lsn(n + 1);
-    let writer = last_writer(journal, n, ends, writes, r.item, r.transaction);
-    let touched = readers(
-        journal,
-        n,
-        ends,
-        reads,
-        links,
-        r.item,
-        r.transaction,
-        writer,
-    );
+    let writer = last_writer(journal, n, ends, writes, x, s);
+    let touched = readers(journal, n, ends, reads, links, x, s, writer);
     if touched.other {
         return Verdict::Refused(Reason::Conflict(i));
     }
     if touched.own {
-        if matches_standing(journal, n, ends, writes, bases, r) {
+        if matches_standing(journal, n, ends, writes, bases, x, before) {
             Verdict::Passed
         } else {
             Verdict::Refused(Reason::BeforeImage(i))
@@ -180,18 +181,31 @@ pub fn judge(
     ensures { λ v. ⌜ verdictOf v ≡ decide (ruleOrder (history (now (journal .entry)) n) (n + 1) (opOf (n + 1) r)) ⌝ }
 {
     let i = Lsn(n + 1);
-    if end_at(ends, r.transaction) != 0 {
+    let s = r.transaction;
+    let x = r.item;
+    if end_at(ends, s) != 0 {
         return Verdict::Refused(Reason::Closed(i));
     }
     let kind = r.kind;
     match kind {
-        1 => judge_read(journal, n, ends, writes, r),
-        2 => judge_write(journal, n, ends, writes, bases, reads, links, r),
+        1 => judge_read(journal, n, ends, writes, x, s),
+        2 => judge_write(
+            journal,
+            n,
+            ends,
+            writes,
+            bases,
+            reads,
+            links,
+            x,
+            s,
+            r.before,
+        ),
         _ => Verdict::Passed,
     }
 }
 
-// Rules 7 and 8 of a write whose before image is right.
+// Rules 7 and 8 of a write of item x by s whose before image is right; s has not ended.
 fn judge_added_write(
     journal: &[u8],
     n: u32,
@@ -199,26 +213,20 @@ fn judge_added_write(
     writes: &[u32],
     reads: &[u32],
     links: &[u32],
-    r: Record,
+    x: Key,
+    s: TransactionId,
 ) -> Verdict
     requires { ⌜ Ready (now journal) n × IsEnds (now journal) n (now ends) × IsWrites (now journal) n (now writes)
-        × IsReads (now journal) n (now reads) × Linked (now journal) n (now links) × (malformed (items (now journal)) r ≡ false)
-        × (r .kind ≡ 2) × (getD (now ends) (r .transaction .0) 0 ≡ 0)
-        × (mismatched (history (now journal) n) (opOf (n + 1) r) ≡ false) × NoBlindTo (now journal) n ⌝ }
-    ensures { λ v. ⌜ verdictOf v ≡ decide (ruleOrder (history (now (journal .entry)) n) (n + 1) (opOf (n + 1) r)) ⌝ }
+        × IsReads (now journal) n (now reads) × Linked (now journal) n (now links) × (x .0 < maxItems)
+        × (s .0 < transactionSlots) × (getD (now ends) (s .0) 0 ≡ 0) × NoBlindTo (now journal) n ⌝ }
+    ensures { λ v. ⌜ ((before after : Amount)
+        → mismatched (history (now (journal .entry)) n) (write (n + 1) (s .0) (x .0) before after) ≡ false
+        → verdictOf v
+        ≡ decide (ruleOrder (history (now (journal .entry)) n) (n + 1) (write (n + 1) (s .0) (x .0) before after))) ⌝ }
 {
     let lsn = Lsn(n + 1);
-    let writer = last_writer(journal, n, ends, writes, r.item, r.transaction);
-    let found = readers(
-        journal,
-        n,
-        ends,
-        reads,
-        links,
-        r.item,
-        r.transaction,
-        writer,
-    );
+    let writer = last_writer(journal, n, ends, writes, x, s);
+    let found = readers(journal, n, ends, reads, links, x, s, writer);
     if found.other {
         return Verdict::Refused(Reason::Conflict(lsn));
     }
@@ -245,13 +253,15 @@ pub fn judge_added(
     ensures { λ v. ⌜ verdictOf v ≡ decide (ruleOrder (history (now (journal .entry)) n) (n + 1) (opOf (n + 1) r)) ⌝ }
 {
     let lsn = Lsn(n + 1);
-    if end_at(ends, r.transaction) != 0 {
+    let s = r.transaction;
+    let x = r.item;
+    if end_at(ends, s) != 0 {
         return Verdict::Refused(Reason::Closed(lsn));
     }
     let kind = r.kind;
     match kind {
-        1 => judge_read(journal, n, ends, writes, r),
-        2 => judge_added_write(journal, n, ends, writes, reads, links, r),
+        1 => judge_read(journal, n, ends, writes, x, s),
+        2 => judge_added_write(journal, n, ends, writes, reads, links, x, s),
         _ => Verdict::Passed,
     }
 }

@@ -1,6 +1,5 @@
 -- `rules::judge_added_write` meets its contract.
 -- Assumes nothing.
-use Rattle.arrays.proofs.ArraysLaws.{item-write}
 use Rattle.rules.proofs.RuleLaws.{write-conflict, write-blind, write-matched}
 use borrow.Author.Needs.{needs}
 use Rattle.rules.proofs.judge_added_write.Statement.{statement}
@@ -10,5 +9,5 @@ pub judge-added-write-spec : {M : Type 1} → statement M
 judge-added-write-spec =
     tie.close
     (tie.spec
-    (λ c. search needs) (λ c κs. search item-write) (λ c κs. search item-write) (λ c. search write-conflict)
-    (λ c. search write-matched) (λ c. search write-blind))
+    (λ c. search needs) (λ c κs. search needs) (λ c κs. search needs) (λ c d a f. search write-conflict)
+    (λ c d a f. search write-matched) (λ c d a f. search write-blind))

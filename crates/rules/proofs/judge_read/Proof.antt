@@ -1,6 +1,5 @@
 -- `rules::judge_read` meets its contract.
 -- Assumes nothing.
-use Rattle.arrays.proofs.ArraysLaws.{item-read}
 use Rattle.rules.proofs.RuleLaws.{read-conflict, read-passed}
 use borrow.Author.Needs.{needs}
 use Rattle.rules.proofs.judge_read.Statement.{statement}
@@ -10,4 +9,4 @@ pub judge-read-spec : {M : Type 1} → statement M
 judge-read-spec =
     tie.close
     (tie.spec
-    (λ c. search needs) (λ c κs. search item-read) (λ c. search read-conflict) (λ c. search read-passed))
+    (λ c. search needs) (λ c κs. search needs) (λ c. search read-conflict) (λ c. search read-passed))
