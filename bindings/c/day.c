@@ -1,4 +1,4 @@
-/* The example day of document 01: built record by record, checked, one slip and one line of descent of it, then taken back. */
+/* The example day of document 01: built record by record, checked, one slip of it, then taken back. */
 #include <inttypes.h>
 #include <stdio.h>
 #include <stdlib.h>
@@ -47,7 +47,7 @@ static void print_table(const int32_t *table, size_t items) {
 int main(void) {
     uint8_t journal[JOURNAL_BYTES(COUNT(day))], out[JOURNAL_BYTES(COUNT(day))], status[JOURNAL_STATUS_BYTES];
     int32_t table[] = {500, 0, 1000};
-    uint32_t counts[JOURNAL_COUNTS] = {0}, lsns[COUNT(day)], line[JOURNAL_MAX_TRANSACTION], surviving, undone, aborted, number;
+    uint32_t counts[JOURNAL_COUNTS] = {0}, lsns[COUNT(day)], surviving, undone, aborted, number;
     const uint16_t unknown[] = {4}, bad[] = {1};
     uint64_t answer = 0;
     size_t i;
@@ -73,12 +73,6 @@ int main(void) {
     accept(number, answer);
     printf("chain of 2:");
     for (i = 0; i < answer; i++) printf(" %" PRIu32, lsns[i]);
-    printf("\n");
-
-    number = journal_lineage(journal, sizeof journal, table, COUNT(table), bad, COUNT(bad), 2, line, COUNT(line), &answer);
-    accept(number, answer);
-    printf("lineage of 2 from 1:");
-    for (i = 0; i < answer; i++) printf(" %" PRIu32, line[i]);
     printf("\n");
 
     number = journal_undo(journal, sizeof journal, table, COUNT(table), unknown, COUNT(unknown), status, sizeof status, out, sizeof out,

@@ -1,6 +1,6 @@
 /*
- * The depot journal (document 01): start, post, check, slip and take-back, the count of a stored journal, and the line of descent
- * (document 02), as a proved static library.
+ * The depot journal (document 01): start, post, check, slip and take-back, and the count of a stored journal, as a proved static
+ * library.
  *
  * Link target/staticlib/libcapi.a, which `rt staticlib capi` writes: x86-64 Linux, position independent, one object. It needs
  * memcpy and memset of the C library and nothing else: no flag, no run-time library, no initialisation.
@@ -8,8 +8,8 @@
  *     cc -std=c99 -I bindings/c program.c target/staticlib/libcapi.a
  *
  * Words. A transaction is document 01's "sale", an LSN its "record number", abort its "rollback", active its "open"; append is
- * "post", chain is "slip", undo is "take-back", lineage is document 02's "line of descent"; surviving is "kept", undone "taken back",
- * aborted "dropped"; status is "marks", out is "paper", counts is "tally".
+ * "post", chain is "slip", undo is "take-back"; surviving is "kept", undone "taken back", aborted "dropped"; status is "marks",
+ * out is "paper", counts is "tally".
  *
  * Layout. A journal is a run of 20-byte records, little-endian. Record 0 is the head, further records count from 1.
  *
@@ -27,9 +27,8 @@
  * Terms. An end is a commit or an abort. A transaction is active from its first record to its end. At an abort each item that the
  * transaction wrote returns to the before of its first write of it. The standing amount of an item follows all records so far, aborts
  * included. Its opening amount is the before of its first write, or the table's amount if it has none. A read by T of an item is fed by
- * the highest earlier write of that item that changed the amount (its after is not its before) and whose transaction is T or has
- * already committed, else by the opening amount; T reads from that write's transaction. A step leads from a transaction to another one
- * that reads from it. A line of descent is a line of transactions with a step from each to the next; its first one is listed.
+ * the highest earlier write of that item whose transaction is T or has already committed, else by the opening amount; T reads from that
+ * write's transaction.
  *
  * Every call. The result is the refusal's number, one of enum journal_reason, or 0 if the call is accepted. `answer` is written in
  * both cases: with the refusal's place, or with what the call answers. A refused call writes to nothing else that it was lent. Any
@@ -38,7 +37,7 @@
  *
  * Loans. A loan is a pointer and the number of its elements behind it (not of bytes), lent for the time of the call. Every pointer
  * must be valid for that many elements and aligned for its element: 1 byte for journal, status and out, 2 for bad, 4 for table, lsns,
- * line, counts, surviving, undone and aborted, 8 for answer. What is read must be initialised; status, out, lsns, line, surviving,
+ * counts, surviving, undone and aborted, 8 for answer. What is read must be initialised; status, out, lsns, surviving,
  * undone, aborted, answer, start's journal, count's counts and the bytes behind a journal's last record need not be. A loan that the
  * call writes must not overlap any other of its loans; `answer`, counts, surviving, undone and aborted are written.
  *
@@ -52,14 +51,14 @@
  * valid for its length cannot be checked. Where JOURNAL_UNCHECKED is defined before this file is read, the usual names are the library's
  * functions, which check none of this.
  *
- * Version. JOURNAL_INTERFACE is the number of this interface; it rises when a signature changes, and not when a function is added. The
- * archive has a function of that number, journal_interface_1, which every checked form calls: a program compiled with this file does not
- * link with an archive of another number.
+ * Version. JOURNAL_INTERFACE is the number of this interface; it rises when a signature changes. The archive has a function of that
+ * number, journal_interface_1, which every checked form calls: a program compiled with this file does not link with an archive of another
+ * number.
  *
  * Null. A null pointer with length 0 is an empty loan, for every loan with a length: nothing is read or written through it. What
- * the calls give: 1 for journal, 3 for table, 13 for status, 14 for out, lsns and line (each unless a refusal before it applies); for
- * bad it is the empty list, which undo accepts; lineage gives 16, since no transaction is undone by it. This is tried for each loan of
- * each call at every test (bindings/rust/tests/loans.rs). `counts`, `surviving`, `undone`, `aborted` and `answer` must not be null (101).
+ * the calls give: 1 for journal, 3 for table, 13 for status, 14 for out and lsns (each unless a refusal before it applies); for bad
+ * it is the empty list, which is accepted. This is tried for each loan of each call at every test (bindings/rust/tests/loans.rs).
+ * `counts`, `surviving`, `undone`, `aborted` and `answer` must not be null (101).
  *
  * State. None is kept between calls: the archive has no writable data. So calls are reentrant and may run in several threads at
  * once. While a call runs, no other thread may touch what it writes, nor write what it reads.
@@ -130,7 +129,7 @@ enum journal_status {
     JOURNAL_STATUS_UNDONE = 2         /* "taken back" */
 };
 
-/* Why a call is refused: document 01's number and word, and the place that `answer` gets. 16 is document 02's, which has no word. */
+/* Why a call is refused: document 01's number and word, and the place that `answer` gets. */
 enum journal_reason {
     JOURNAL_REASON_TRUNCATED = 1,      /* torn: fewer than 20 bytes, or fewer than 20 x (record count + 1); place 0 */
     JOURNAL_REASON_HEADER = 2,         /* head: a field of the head, or start's item count, breaks the layout; place 0 */
@@ -149,11 +148,9 @@ enum journal_reason {
     JOURNAL_REASON_UNKNOWN = 12,       /* unknown: a listed number is not a committed transaction; place: its lowest position in
                                           the list, from 0. In chain: a transaction without records; place 0 */
     JOURNAL_REASON_STATUS_LENGTH = 13, /* marks: length is not 1,025; place 0 */
-    JOURNAL_REASON_CAPACITY = 14,      /* paper: out, lsns or line is shorter than needed; in append 3,200 records already, or under
-                                          20 bytes left behind the last record; place 0 */
+    JOURNAL_REASON_CAPACITY = 14,      /* paper: out or lsns is shorter than needed; in append 3,200 records already, or under 20
+                                          bytes left behind the last record; place 0 */
     JOURNAL_REASON_COUNTS = 15,        /* tally: the counts differ from the journal; place 0 */
-    JOURNAL_REASON_NOT_UNDONE = 16,    /* not taken back: undo with this list does not undo the transaction: it survives, was
-                                          aborted, or there is none of that number; place 0 */
     JOURNAL_REASON_LOANS = 101         /* loans: of the checked forms alone, see "Loans" above; no place, `answer` is not written */
 };
 
@@ -168,7 +165,6 @@ enum journal_reason {
 #define JOURNAL_STACK_CHECK 36864
 #define JOURNAL_STACK_CHAIN 36864
 #define JOURNAL_STACK_UNDO 45056
-#define JOURNAL_STACK_LINEAGE 45056
 #define JOURNAL_STACK_COUNT_RECORDS 1024
 
 /*
@@ -259,29 +255,10 @@ uint32_t journal_undo(const uint8_t *journal, size_t journal_length, int32_t *ta
                       size_t bad_length, uint8_t *status, size_t status_length, uint8_t *out, size_t out_length, uint32_t *surviving,
                       uint32_t *undone, uint32_t *aborted, uint64_t *answer);
 
-/*
- * Lists how a transaction that journal_undo with this list would undo is drawn in ("line of descent"): the shortest line of transactions
- * from a listed one to it, each next one with a read that is fed by a write of the one ahead. Of several as short it is the first when
- * compared number by number from the listed one. A listed transaction's line is itself alone. Answers how many transactions the line
- * has.
- *
- * journal, table: read only. They are those that journal_undo is lent: call it before the undo, or keep the table of before.
- * bad: numbers of committed transactions, as for journal_undo; read only.
- * transaction: the one asked for; any number.
- * line: written where accepted: as many entries from the front as the call answers, each the number of a transaction, a listed one first
- *     and the one asked for last; the rest is not written. It is not read. JOURNAL_MAX_TRANSACTION entries are always enough.
- *
- * Refusals in order: 1 (under 20 bytes), 2, 1 (whole length), 3; 4 to 9, the lowest record first, at one record the lowest number;
- * 10, 11, 12, 16 (a transaction of 0 or above 1,024 too), 14. Places of 1, 2, 3, 14 and 16 are 0.
- */
-JOURNAL_MUST_USE
-uint32_t journal_lineage(const uint8_t *journal, size_t journal_length, const int32_t *table, size_t table_length, const uint16_t *bad,
-                         size_t bad_length, uint16_t transaction, uint32_t *line, size_t line_length, uint64_t *answer);
-
 /* The number of the archive's interface, JOURNAL_INTERFACE. An archive of another one has no function of this name. */
 uint32_t journal_interface_1(void);
 
-/* The word for the number of a refusal, document 01's up to 15; "accepted" for 0, "?" for a number that no call returns. */
+/* Document 01's word for the number of a refusal; "accepted" for 0, "?" for a number that no call returns. */
 static inline const char *journal_refusal_word(uint32_t number) {
     switch (number) {
     case 0: return "accepted";
@@ -300,7 +277,6 @@ static inline const char *journal_refusal_word(uint32_t number) {
     case JOURNAL_REASON_STATUS_LENGTH: return "marks";
     case JOURNAL_REASON_CAPACITY: return "paper";
     case JOURNAL_REASON_COUNTS: return "tally";
-    case JOURNAL_REASON_NOT_UNDONE: return "not taken back";
     case JOURNAL_REASON_LOANS: return "loans";
     default: return "?";
     }
@@ -486,17 +462,6 @@ static inline uint32_t journal_checked_undo(const uint8_t *journal, size_t journ
                         undone, aborted, answer);
 }
 
-JOURNAL_MUST_USE
-static inline uint32_t journal_checked_lineage(const uint8_t *journal, size_t journal_length, const int32_t *table, size_t table_length,
-                                               const uint16_t *bad, size_t bad_length, uint16_t transaction, uint32_t *line,
-                                               size_t line_length, uint64_t *answer) {
-    const struct journal_loan loans[] = {JOURNAL_READS(journal, journal_length), JOURNAL_READS(table, table_length),
-                                         JOURNAL_READS(bad, bad_length), JOURNAL_WRITES(line, line_length), JOURNAL_WRITES(answer, 1)};
-    if (!JOURNAL_GOOD(loans)) return JOURNAL_REASON_LOANS;
-    journal_interface_1();
-    return journal_lineage(journal, journal_length, table, table_length, bad, bad_length, transaction, line, line_length, answer);
-}
-
 #undef JOURNAL_READS
 #undef JOURNAL_WRITES
 #undef JOURNAL_GOOD
@@ -507,7 +472,6 @@ static inline uint32_t journal_checked_lineage(const uint8_t *journal, size_t jo
 #define journal_check journal_checked_check
 #define journal_chain journal_checked_chain
 #define journal_undo journal_checked_undo
-#define journal_lineage journal_checked_lineage
 
 #endif
 

@@ -10,7 +10,7 @@
 
 #include "journal.h"
 
-enum { START, APPEND, COUNT, CHECK, CHAIN, UNDO, LINEAGE, CALLS };
+enum { START, APPEND, COUNT, CHECK, CHAIN, UNDO, CALLS };
 enum { MOST = 9, SLOT = 4096, RECORDS = 4 };
 
 struct loan {
@@ -32,8 +32,6 @@ static const struct call {
     {"undo", 9, {{"journal", 1, JOURNAL_BYTES(RECORDS), 0, 0}, {"table", 4, 1, 1, 0}, {"bad", 2, 1, 0, 0},
                  {"status", 1, JOURNAL_STATUS_BYTES, 1, 0}, {"out", 1, JOURNAL_BYTES(RECORDS), 1, 0}, {"surviving", 4, 1, 1, 1},
                  {"undone", 4, 1, 1, 1}, {"aborted", 4, 1, 1, 1}, {"answer", 8, 1, 1, 1}}},
-    {"lineage", 5, {{"journal", 1, JOURNAL_BYTES(RECORDS), 0, 0}, {"table", 4, 1, 0, 0}, {"bad", 2, 1, 0, 0}, {"line", 4, 3, 1, 0},
-                    {"answer", 8, 1, 1, 1}}},
 };
 
 /* Where each loan of a call lies, and its length. */
@@ -50,8 +48,6 @@ uint32_t __real_journal_check(const uint8_t *, size_t, const int32_t *, size_t, 
 uint32_t __real_journal_chain(const uint8_t *, size_t, uint16_t, uint32_t *, size_t, uint64_t *);
 uint32_t __real_journal_undo(const uint8_t *, size_t, int32_t *, size_t, const uint16_t *, size_t, uint8_t *, size_t, uint8_t *, size_t,
                              uint32_t *, uint32_t *, uint32_t *, uint64_t *);
-uint32_t __real_journal_lineage(const uint8_t *, size_t, const int32_t *, size_t, const uint16_t *, size_t, uint16_t, uint32_t *, size_t,
-                                uint64_t *);
 uint32_t __real_journal_interface_1(void);
 uint32_t __wrap_journal_start(uint8_t *, size_t, uint32_t, uint64_t *);
 uint32_t __wrap_journal_append(uint8_t *, size_t, int32_t *, size_t, uint32_t *, uint8_t, uint16_t, uint32_t, int32_t, uint64_t *);
@@ -60,8 +56,6 @@ uint32_t __wrap_journal_check(const uint8_t *, size_t, const int32_t *, size_t, 
 uint32_t __wrap_journal_chain(const uint8_t *, size_t, uint16_t, uint32_t *, size_t, uint64_t *);
 uint32_t __wrap_journal_undo(const uint8_t *, size_t, int32_t *, size_t, const uint16_t *, size_t, uint8_t *, size_t, uint8_t *, size_t,
                              uint32_t *, uint32_t *, uint32_t *, uint64_t *);
-uint32_t __wrap_journal_lineage(const uint8_t *, size_t, const int32_t *, size_t, const uint16_t *, size_t, uint16_t, uint32_t *, size_t,
-                                uint64_t *);
 uint32_t __wrap_journal_interface_1(void);
 
 static unsigned long called, asked, refused, passed;
@@ -103,14 +97,8 @@ uint32_t __wrap_journal_undo(const uint8_t *j, size_t jn, int32_t *t, size_t tn,
     return __real_journal_undo(j, jn, t, tn, b, bn, s, sn, o, on, surviving, undone, aborted, a);
 }
 
-uint32_t __wrap_journal_lineage(const uint8_t *j, size_t jn, const int32_t *t, size_t tn, const uint16_t *b, size_t bn,
-                                uint16_t transaction, uint32_t *l, size_t ln, uint64_t *a) {
-    called++;
-    return __real_journal_lineage(j, jn, t, tn, b, bn, transaction, l, ln, a);
-}
-
 /* A call with these loans: by the checked forms, and by the library. Append posts a commit of transaction 2. */
-#define RUN(name, start, append, count_records, check, chain, undo, lineage)                                                       \
+#define RUN(name, start, append, count_records, check, chain, undo)                                                                \
     static uint32_t name(int call, const struct lent *l) {                                                                         \
         void *const *p = l->at;                                                                                                    \
         const size_t *n = l->length;                                                                                               \
@@ -120,13 +108,12 @@ uint32_t __wrap_journal_lineage(const uint8_t *j, size_t jn, const int32_t *t, s
         case COUNT: return count_records(p[0], n[0], p[1], p[2]);                                                                  \
         case CHECK: return check(p[0], n[0], p[1], n[1], p[2]);                                                                    \
         case CHAIN: return chain(p[0], n[0], 1, p[1], n[1], p[2]);                                                                 \
-        case UNDO: return undo(p[0], n[0], p[1], n[1], p[2], n[2], p[3], n[3], p[4], n[4], p[5], p[6], p[7], p[8]);                \
-        default: return lineage(p[0], n[0], p[1], n[1], p[2], n[2], 1, p[3], n[3], p[4]);                                          \
+        default: return undo(p[0], n[0], p[1], n[1], p[2], n[2], p[3], n[3], p[4], n[4], p[5], p[6], p[7], p[8]);                   \
         }                                                                                                                          \
     }
-RUN(checked, journal_start, journal_append, journal_count_records, journal_check, journal_chain, journal_undo, journal_lineage)
+RUN(checked, journal_start, journal_append, journal_count_records, journal_check, journal_chain, journal_undo)
 RUN(unchecked, __real_journal_start, __real_journal_append, __real_journal_count_records, __real_journal_check, __real_journal_chain,
-    __real_journal_undo, __real_journal_lineage)
+    __real_journal_undo)
 
 /* The memory that everything is lent from, as it was before a call, and after the library's call on it. */
 static unsigned char *arena, *before, *after;

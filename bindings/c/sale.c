@@ -1,9 +1,8 @@
-/* Two sales from item 0, of 180 and 150 pence, are posted. The first is taken back, and with it the second, which read what it wrote; a
-   third, of 150 pence, is posted on to what is left. */
+/* A sale of 180 pence, posted and then taken back; another, of 150 pence, posted on to what is left. */
 #include <stdio.h>
 #include "journal.h"
 
-enum { ITEMS = 1, ROOM = JOURNAL_BYTES(6) };
+enum { ITEMS = 1, ROOM = JOURNAL_BYTES(3) };
 
 static int32_t table[ITEMS] = {500};
 static uint32_t counts[JOURNAL_COUNTS];
@@ -20,21 +19,10 @@ static uint32_t sell(uint8_t journal[ROOM], uint16_t sale, int32_t pence) {
 int main(void) {
     uint8_t journal[ROOM], out[ROOM], status[JOURNAL_STATUS_BYTES];
     const uint16_t bad[1] = {1};
-    uint32_t line[2], surviving, undone, aborted;
-    size_t i;
+    uint32_t surviving, undone, aborted;
 
     uint32_t refused = journal_start(journal, ROOM, ITEMS, &answer);
     if (!refused) refused = sell(journal, 1, 180);
-    if (!refused) refused = sell(journal, 2, 150);
-
-    /* How the list draws sale 2 in; asked before the take-back, with the table of before. */
-    if (!refused) refused = journal_lineage(journal, ROOM, table, ITEMS, bad, 1, 2, line, 2, &answer);
-    if (!refused) {
-        printf("sale 2 is drawn in:");
-        for (i = 0; i < answer; i++) printf(" %lu", (unsigned long)line[i]);
-        printf("\n");
-    }
-
     if (!refused)
         refused = journal_undo(journal, ROOM, table, ITEMS, bad, 1, status, sizeof status, out, ROOM, &surviving, &undone, &aborted,
                                &answer);
@@ -42,7 +30,7 @@ int main(void) {
 
     /* The copy is at the front of out, with room behind it; the table goes with it, and so do the copy's counts. */
     if (!refused) refused = journal_count_records(out, ROOM, counts, &answer);
-    if (!refused) refused = sell(out, 3, 150);
+    if (!refused) refused = sell(out, 2, 150);
     if (!refused) printf("posted on, item 0 is %ld\n", (long)table[0]);
     if (refused == JOURNAL_REASON_LOANS) printf("refused: loans\n"); /* answer is not written */
     else if (refused) printf("refused: %s, place %lu\n", journal_refusal_word(refused), (unsigned long)answer);

@@ -15,10 +15,10 @@ enum { STACK = 1 << 18, LIST = JOURNAL_MAX_TRANSACTION };
 /* What is lent. */
 static uint8_t journal[JOURNAL_MAX_BYTES], out[JOURNAL_MAX_BYTES], status[JOURNAL_STATUS_BYTES];
 static int32_t table[JOURNAL_MAX_ITEMS];
-static uint32_t counts[JOURNAL_COUNTS], lsns[JOURNAL_MAX_RECORDS], line[JOURNAL_MAX_TRANSACTION], surviving, undone, aborted;
+static uint32_t counts[JOURNAL_COUNTS], lsns[JOURNAL_MAX_RECORDS], surviving, undone, aborted;
 static uint16_t bad[LIST];
 static uint64_t answer;
-static size_t room, items, listed, slots, entries;
+static size_t room, items, listed, slots;
 static uint8_t kind;
 static uint16_t transaction;
 static uint32_t item, result;
@@ -41,10 +41,6 @@ static void call_undo(void) {
                           &answer);
 }
 
-static void call_lineage(void) {
-    result = journal_lineage(journal, room, table, items, bad, listed, transaction, line, entries, &answer);
-}
-
 struct call {
     const char *name;
     void (*function)(void);
@@ -55,9 +51,8 @@ static struct call calls[] = {
     {"start", call_start, JOURNAL_STACK_START, 0}, {"append", call_append, JOURNAL_STACK_APPEND, 0},
     {"count_records", call_count, JOURNAL_STACK_COUNT_RECORDS, 0}, {"check", call_check, JOURNAL_STACK_CHECK, 0},
     {"chain", call_chain, JOURNAL_STACK_CHAIN, 0}, {"undo", call_undo, JOURNAL_STACK_UNDO, 0},
-    {"lineage", call_lineage, JOURNAL_STACK_LINEAGE, 0},
 };
-enum { START, APPEND, COUNT, CHECK, CHAIN, UNDO, LINEAGE, CALLS };
+enum { START, APPEND, COUNT, CHECK, CHAIN, UNDO, CALLS };
 
 static void fail(const char *what) {
     fprintf(stderr, "stack: %s\n", what);
@@ -108,8 +103,8 @@ static void append(uint8_t the_kind, uint32_t of_transaction, uint32_t the_item,
     run(APPEND, 0);
 }
 
-/* A finished journal that is full: a refused append, check, chain, the line of transaction 1, which is undone if a list is given; all
-   calls with the last record damaged, which count does not see; then undo. */
+/* A finished journal that is full: a refused append, check, chain; all calls with the last record damaged, which count does not see;
+   then undo. */
 static void full_day(void) {
     size_t last = JOURNAL_MAX_BYTES - JOURNAL_RECORD_BYTES;
     if (counts[0] + counts[1] + counts[2] + counts[3] != JOURNAL_MAX_RECORDS) fail("the day is not full");
@@ -122,17 +117,12 @@ static void full_day(void) {
     run(CHAIN, 0);
     slots = 0;
     run(CHAIN, JOURNAL_REASON_CAPACITY);
-    entries = JOURNAL_MAX_TRANSACTION;
-    run(LINEAGE, listed > 0 ? 0 : JOURNAL_REASON_NOT_UNDONE);
-    entries = 0;
-    run(LINEAGE, listed > 0 ? JOURNAL_REASON_CAPACITY : JOURNAL_REASON_NOT_UNDONE);
     journal[last + 1] = 1;
     run(APPEND, JOURNAL_REASON_MALFORMED);
     run(COUNT, 0);
     run(CHECK, JOURNAL_REASON_MALFORMED);
     run(CHAIN, JOURNAL_REASON_MALFORMED);
     run(UNDO, JOURNAL_REASON_MALFORMED);
-    run(LINEAGE, JOURNAL_REASON_MALFORMED);
     journal[last + 1] = 0;
     run(UNDO, 0);
 }
@@ -150,13 +140,6 @@ int main(void) {
             for (i = 3 * t; i < JOURNAL_MAX_RECORDS; i++) append(JOURNAL_KIND_READ, t, i % JOURNAL_MAX_ITEMS, 0);
         append(JOURNAL_KIND_COMMIT, t, 0, 0);
     }
-    /* The longest line: from the first to the last. */
-    listed = 1;
-    bad[0] = 1;
-    transaction = JOURNAL_MAX_TRANSACTION;
-    entries = JOURNAL_MAX_TRANSACTION;
-    run(LINEAGE, 0);
-    if (answer != JOURNAL_MAX_TRANSACTION) fail("the line is not the longest");
     for (listed = 0; listed < LIST; listed++) bad[listed] = (uint16_t)(LIST - listed);
     full_day();
 
@@ -173,22 +156,6 @@ int main(void) {
         full_day();
     }
 
-    /* Two lines as short, of which one is chosen: transaction 3 reads what 2 wrote and then what 1 wrote. */
-    start(sizeof journal, 2);
-    for (t = 1; t <= 2; t++) {
-        append(JOURNAL_KIND_READ, t, t - 1, 0);
-        append(JOURNAL_KIND_WRITE, t, t - 1, 1);
-        append(JOURNAL_KIND_COMMIT, t, 0, 0);
-        bad[t - 1] = (uint16_t)t;
-    }
-    append(JOURNAL_KIND_READ, 3, 1, 0);
-    append(JOURNAL_KIND_READ, 3, 0, 0);
-    append(JOURNAL_KIND_COMMIT, 3, 0, 0);
-    listed = 2;
-    entries = JOURNAL_MAX_TRANSACTION;
-    run(LINEAGE, 0);
-    if (answer != 2 || line[0] != 1) fail("the line is not the first of two");
-
     /* A head only, an unknown name, and nothing at all. */
     start(JOURNAL_RECORD_BYTES, 1);
     kind = JOURNAL_KIND_COMMIT;
@@ -200,7 +167,6 @@ int main(void) {
     run(CHECK, 0);
     run(CHAIN, JOURNAL_REASON_UNKNOWN);
     run(UNDO, JOURNAL_REASON_UNKNOWN);
-    run(LINEAGE, JOURNAL_REASON_UNKNOWN);
     room = 0;
     for (i = START; i < CALLS; i++) run((int)i, JOURNAL_REASON_TRUNCATED);
 

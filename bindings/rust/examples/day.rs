@@ -1,9 +1,7 @@
-//! The example day of document 01: built record by record, checked, one slip and one line of descent of
-//! it, then taken back.
+//! The example day of document 01: built record by record, checked, one slip of it, then taken back.
 
-use journal::{append, chain, check, journal_bytes, kind, lineage, start, status, undo};
-use journal::{Counts, Item, Lsn, Refusal, Transaction};
-use journal::{MAX_TRANSACTION, RECORD_BYTES, STATUS_BYTES};
+use journal::{append, chain, check, journal_bytes, kind, start, status, undo};
+use journal::{Counts, Item, Lsn, Refusal, Transaction, RECORD_BYTES, STATUS_BYTES};
 
 /// Kind, transaction, item and after of each record.
 const DAY: [(u8, u16, u32, i32); 11] = [
@@ -56,17 +54,13 @@ fn main() -> Result<(), Refusal> {
     let visited = chain(&journal, Transaction(2), &mut lsns)?;
     println!("chain of 2: {}", words(&lsns[..visited]));
 
-    let bad = [Transaction(1)];
-    let mut line = [0; MAX_TRANSACTION as usize];
-    let length = lineage(&journal, &table, &bad, Transaction(2), &mut line)?;
-    println!("lineage of 2 from 1: {}", words(&line[..length]));
-
     let mut marks = [0; STATUS_BYTES];
     let mut out = [0; journal_bytes(DAY.len())];
     let unknown = [Transaction(4)];
     if let Err(refusal) = undo(&journal, &mut table, &unknown, &mut marks, &mut out) {
         println!("undo of 4: refused, {refusal}");
     }
+    let bad = [Transaction(1)];
     let totals = undo(&journal, &mut table, &bad, &mut marks, &mut out)?;
     println!(
         "undo of 1: {} surviving, {} undone, {} aborted, a copy of {} bytes",

@@ -1,7 +1,6 @@
-//! Two sales from item 0, of 180 and 150 pence, are posted. The first is taken back, and with it the
-//! second, which read what it wrote; a third, of 150 pence, is posted on to what is left.
+//! A sale of 180 pence, posted and then taken back; another, of 150 pence, posted on to what is left.
 
-use journal::{append, journal_bytes, kind, lineage, start, undo};
+use journal::{append, journal_bytes, kind, start, undo};
 use journal::{Counts, Item, Refusal, Transaction, STATUS_BYTES};
 
 /// A sale that takes these pence from item 0: a read, a write and a commit.
@@ -20,28 +19,19 @@ fn sell(
 }
 
 fn main() -> Result<(), Refusal> {
-    let (mut journal, mut table, mut counts) = ([0; journal_bytes(6)], [500], Counts::default());
+    let (mut journal, mut table, mut counts) = ([0; journal_bytes(3)], [500], Counts::default());
     start(&mut journal, 1)?;
     sell(&mut journal, &mut table, &mut counts, Transaction(1), 180)?;
-    sell(&mut journal, &mut table, &mut counts, Transaction(2), 150)?;
 
-    // How the list draws sale 2 in; asked before the take-back, with the table of before.
-    let (bad, mut line) = ([Transaction(1)], [0; 2]);
-    let length = lineage(&journal, &table, &bad, Transaction(2), &mut line)?;
-    print!("sale 2 is drawn in:");
-    for sale in &line[..length] {
-        print!(" {sale}");
-    }
-    println!();
-
-    let (mut marks, mut out) = ([0; STATUS_BYTES], [0; journal_bytes(6)]);
+    let (mut marks, mut out) = ([0; STATUS_BYTES], [0; journal_bytes(3)]);
+    let bad = [Transaction(1)];
     let totals = undo(&journal, &mut table, &bad, &mut marks, &mut out)?;
     println!("{} taken back, item 0 is {}", totals.undone, table[0]);
 
     // The copy is at the front of `out`, with room behind it; the table goes with it, and so do the
     // copy's counts.
     let mut counts = Counts::of(&out)?;
-    sell(&mut out, &mut table, &mut counts, Transaction(3), 150)?;
+    sell(&mut out, &mut table, &mut counts, Transaction(2), 150)?;
     println!("posted on, item 0 is {}", table[0]);
     Ok(())
 }

@@ -1,10 +1,9 @@
-//! The depot journal (document 01): start, post, check, slip and take-back, the count of a stored
-//! journal, and the line of descent (document 02), over the proved static library `capi`.
+//! The depot journal (document 01): start, post, check, slip and take-back, and the count of a stored
+//! journal, over the proved static library `capi`.
 //!
 //! A *transaction* is document 01's "sale", an *LSN* its "record number", *abort* its "rollback" and
-//! *active* its "open"; [`append`] is "post", [`chain`](chain()) is "slip", [`undo`] is "take-back";
-//! [`lineage`] is document 02's "line of descent". [`Transaction`], [`Item`] and [`Lsn`] are three
-//! separate numberings, each a type of its own.
+//! *active* its "open"; [`append`] is "post", [`chain`](chain()) is "slip", [`undo`] is "take-back".
+//! [`Transaction`], [`Item`] and [`Lsn`] are three separate numberings, each a type of its own.
 //!
 //! Every call takes slices of any length and content. It is accepted, or refused with a number and a
 //! place ([`Refusal`]); a refused call has written to nothing it was lent. No state is kept between
@@ -62,9 +61,9 @@ pub use numbers::{Item, Lsn, Transaction};
 pub use record::{records, Head, Record};
 pub use refusal::{Place, Reason, Refusal};
 
-/// The number of the C interface that this crate is for; it rises when a signature changes, and not when
-/// a function is added. Every function here calls one of the archive that has this number in its name, so
-/// an archive of another number does not link.
+/// The number of the C interface that this crate is for; it rises when a signature changes. Every
+/// function here calls one of the archive that has this number in its name, so an archive of another
+/// number does not link.
 pub const INTERFACE: u32 = 1;
 
 /// Bytes of the head and of each record.
@@ -349,7 +348,7 @@ pub fn chain(journal: &[u8], transaction: Transaction, lsns: &mut [Lsn]) -> Resu
 }
 
 /// Undoes the listed transactions and every committed transaction that read from them, directly or
-/// through others ("take-back"). A write that leaves the amount as it was feeds no read.
+/// through others ("take-back").
 ///
 /// Where accepted, `table` has the amounts that the surviving transactions leave, `status` has a byte
 /// of [`status`](mod@status) per transaction number, and the front of `out` is the copy: the journal
@@ -407,74 +406,4 @@ pub fn undo(
         // At most the length of `out`.
         bytes: bytes as usize,
     })
-}
-
-/// Writes how a transaction that [`undo`] with this list would undo is drawn in to the front of `line`
-/// ("line of descent"); answers how many transactions the line has. The rest of `line` is not written.
-///
-/// It is the shortest line of transactions from a listed one to `transaction`, each next one with a read
-/// that is fed by a write of the one ahead. Of several as short it is the first when compared number by
-/// number from the listed one. A listed transaction's line is itself alone. An entry is the number of a
-/// [`Transaction`], in 32 bits; [`MAX_TRANSACTION`] entries are always enough. Journal and table are those
-/// that [`undo`] is lent: call it before the undo, or keep the table of before.
-///
-/// # Errors
-///
-/// In order: 1 (under 20 bytes), 2, 1 (whole length), 3; 4 to 9, the lowest record first, at one
-/// record the lowest number; 10, 11, 12, 16, 14.
-///
-/// ```
-/// use journal::{append, kind, lineage, Counts, Item, Transaction};
-///
-/// // Sale 4 writes item 0, sale 2 reads it and writes item 1, sale 3 reads item 1; sale 5 reads nothing.
-/// let mut journal = [0; 220];
-/// let (mut table, mut counts) = ([500, 0], Counts::default());
-/// journal::start(&mut journal, 2)?;
-/// for (kind, sale, item, after) in [
-///     (kind::READ, 4, 0, 0),
-///     (kind::WRITE, 4, 0, 320),
-///     (kind::COMMIT, 4, 0, 0),
-///     (kind::READ, 2, 0, 0),
-///     (kind::READ, 2, 1, 0),
-///     (kind::WRITE, 2, 1, 1),
-///     (kind::COMMIT, 2, 0, 0),
-///     (kind::READ, 3, 1, 0),
-///     (kind::COMMIT, 3, 0, 0),
-///     (kind::COMMIT, 5, 0, 0),
-/// ] {
-///     let (sale, item) = (Transaction(sale), Item(item));
-///     append(&mut journal, &mut table, &mut counts, kind, sale, item, after)?;
-/// }
-/// let (bad, mut line) = ([Transaction(4)], [0; 3]);
-/// let length = lineage(&journal, &table, &bad, Transaction(3), &mut line)?;
-/// assert_eq!(line[..length], [4, 2, 3]);
-/// let kept = lineage(&journal, &table, &bad, Transaction(5), &mut line);
-/// assert_eq!(kept.unwrap_err().to_string(), "not taken back");
-/// # Ok::<(), journal::Refusal>(())
-/// ```
-pub fn lineage(
-    journal: &[u8],
-    table: &[i32],
-    bad: &[Transaction],
-    transaction: Transaction,
-    line: &mut [u32],
-) -> Result<usize, Refusal> {
-    // SAFETY: journal, table and list are borrowed through the call and only read, `line` and `answer` are
-    // borrowed alone; each length is its slice's, and a `Transaction` is laid out as a u16.
-    let length = ask(|answer| unsafe {
-        raw::journal_lineage(
-            journal.as_ptr(),
-            journal.len(),
-            table.as_ptr(),
-            table.len(),
-            bad.as_ptr().cast(),
-            bad.len(),
-            transaction.0,
-            line.as_mut_ptr(),
-            line.len(),
-            answer,
-        )
-    })?;
-    // At most the length of `line`.
-    Ok(length as usize)
 }

@@ -112,22 +112,4 @@ extern "C" {
         aborted: *mut u32,
         answer: *mut u64,
     ) -> u32;
-
-    /// Writes the line of descent of one transaction to the front of `line`; answers its length.
-    ///
-    /// # Safety
-    ///
-    /// See the [module](self).
-    pub fn journal_lineage(
-        journal: *const u8,
-        journal_length: usize,
-        table: *const i32,
-        table_length: usize,
-        bad: *const u16,
-        bad_length: usize,
-        transaction: u16,
-        line: *mut u32,
-        line_length: usize,
-        answer: *mut u64,
-    ) -> u32;
 }

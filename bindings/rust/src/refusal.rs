@@ -1,11 +1,11 @@
-//! Refusals: document 01, "Reasons for handing it back"; 16: document 02, request 4.
+//! Refusals: document 01, "Reasons for handing it back".
 
 use crate::{Item, Lsn, Transaction};
 use std::error::Error;
 use std::fmt;
 
 /// Why a call is refused. Each case has document 01's number as its value; the quoted word is the
-/// document's. 16 is document 02's, which has no word.
+/// document's.
 #[derive(Clone, Copy, Debug, PartialEq, Eq)]
 #[non_exhaustive]
 #[repr(u32)]
@@ -40,14 +40,11 @@ pub enum Reason {
     Unknown = 12,
     /// "marks": the status vector's length is not 1,025.
     StatusLength = 13,
-    /// "paper": the copy's buffer, the list of record numbers or that of the line is shorter than
-    /// needed; in [`append`](crate::append) 3,200 records already, or under 20 bytes left.
+    /// "paper": the copy's buffer or the list of record numbers is shorter than needed; in
+    /// [`append`](crate::append) 3,200 records already, or under 20 bytes left.
     Capacity = 14,
     /// "tally": the counts differ from the journal.
     Counts = 15,
-    /// "not taken back": an undo with this list does not undo the transaction: it survives, was
-    /// aborted, or there is none of that number.
-    NotUndone = 16,
 }
 
 impl Reason {
@@ -68,15 +65,14 @@ impl Reason {
         Reason::StatusLength,
         Reason::Capacity,
         Reason::Counts,
-        Reason::NotUndone,
     ];
 
-    /// Document 01's number; of 16, document 02's.
+    /// Document 01's number.
     pub const fn number(self) -> u32 {
         self as u32
     }
 
-    /// Document 01's word; of 16, one of this crate.
+    /// Document 01's word.
     pub const fn word(self) -> &'static str {
         match self {
             Reason::Truncated => "torn",
@@ -94,7 +90,6 @@ impl Reason {
             Reason::StatusLength => "marks",
             Reason::Capacity => "paper",
             Reason::Counts => "tally",
-            Reason::NotUndone => "not taken back",
         }
     }
 }
@@ -130,9 +125,9 @@ impl Place {
     }
 }
 
-/// A refusal: its number and the place. The call has written to nothing it was lent.
+/// A refusal: document 01's number and the place. The call has written to nothing it was lent.
 ///
-/// It displays the word of that number and the place, where it has one; `{:?}`, which is what a `main`
+/// It displays the document's word and the place, where it has one; `{:?}`, which is what a `main`
 /// that returns it prints, adds the number:
 ///
 /// ```
@@ -144,7 +139,7 @@ impl Place {
 #[derive(Clone, Copy, PartialEq, Eq)]
 #[non_exhaustive]
 pub struct Refusal {
-    /// 1 to 16, see [`Reason`].
+    /// 1 to 15, see [`Reason`].
     pub number: u32,
     /// Where, and of what.
     pub place: Place,
@@ -159,7 +154,7 @@ impl Refusal {
             10 => Place::Item(Item(place as u32)),
             11 => Place::Transaction(Transaction(place as u16)),
             12 => Place::Position(place),
-            1..=16 => Place::None,
+            1..=15 => Place::None,
             _ => Place::Other(place),
         };
         Refusal { number, place }

@@ -1,7 +1,7 @@
 //! The example day of document 01, to the byte.
 
 use journal::status::{NOT_COMMITTED, SURVIVING, UNDONE};
-use journal::{append, chain, check, kind, lineage, start, undo};
+use journal::{append, chain, check, kind, start, undo};
 use journal::{Counts, Item, Lsn, Place, Reason, Refusal, Transaction, Undone, STATUS_BYTES};
 
 const CLOSING: [i32; 3] = [320, 0, 1180];
@@ -121,54 +121,6 @@ fn the_slips() {
         assert_eq!(lsns.map(|lsn| lsn.0)[..slip.len()], *slip);
         assert!(lsns[slip.len()..].iter().all(|lsn| *lsn == Lsn(77)));
     }
-}
-
-/// Lineage of a sale on the example day: answer and list.
-fn descent(bad: &[u16], sale: u16, length: usize) -> (Result<usize, Refusal>, Vec<u32>) {
-    let mut line = vec![77; length];
-    let bad = Transaction::list(bad);
-    let answer = lineage(&example(), &CLOSING, bad, Transaction(sale), &mut line);
-    (answer, line)
-}
-
-#[test]
-fn the_lines_of_descent() {
-    for (bad, sale, expected) in [
-        (&[1][..], 1, &[1][..]),
-        (&[1], 2, &[1, 2]),
-        (&[3, 1, 1], 2, &[1, 2]),
-        (&[1, 2], 2, &[2]),
-        (&[2, 3], 3, &[3]),
-    ] {
-        for length in [expected.len(), 1024] {
-            let (answer, line) = descent(bad, sale, length);
-            assert_eq!(answer, Ok(expected.len()));
-            assert_eq!(line[..expected.len()], *expected);
-            assert!(line[expected.len()..].iter().all(|entry| *entry == 77));
-        }
-    }
-}
-
-#[test]
-fn a_refused_line_of_descent_writes_nothing() {
-    for (bad, sale, length, number, place) in [
-        (&[1][..], 3, 9, 16, 0),
-        (&[2], 1, 9, 16, 0),
-        (&[], 1, 9, 16, 0),
-        (&[1], 0, 9, 16, 0),
-        (&[1], 4, 0, 16, 0),
-        (&[1], 1025, 0, 16, 0),
-        (&[1], u16::MAX, 9, 16, 0),
-        (&[1, 4], 3, 9, 12, 1),
-        (&[1], 2, 1, 14, 0),
-        (&[1], 1, 0, 14, 0),
-    ] {
-        let (answer, line) = descent(bad, sale, length);
-        assert_eq!(answer, Err(Refusal::new(number, place)));
-        assert!(line.iter().all(|entry| *entry == 77));
-    }
-    let kept = descent(&[1], 3, 9).0.unwrap_err();
-    assert_eq!(kept.reason(), Some(Reason::NotUndone));
 }
 
 #[test]

@@ -123,13 +123,13 @@ fn the_types_are_those_of_header_and_binding() {
 fn the_calls_are_those_of_header_and_binding() {
     let header = header();
     let in_c = declared("c", 0, ";");
-    assert_eq!(in_c.len(), 11);
+    assert_eq!(in_c.len(), 10);
     for call in in_c {
         assert!(header.contains(&call), "not in journal.h: {call}");
     }
     let binding = squeezed(&binding());
     let in_rust = declared("rust", 0, "pub fn ");
-    assert_eq!(in_rust.len(), 10);
+    assert_eq!(in_rust.len(), 9);
     for call in in_rust {
         assert!(
             binding.contains(&format!("pubfn{call}{{")),
@@ -165,7 +165,6 @@ fn the_stack_of_each_call_is_the_headers() {
         ("start, count", &["START", "COUNT_RECORDS"][..]),
         ("post, check, slip", &["APPEND", "CHECK", "CHAIN"]),
         ("take-back", &["UNDO"]),
-        ("line of descent", &["LINEAGE"]),
     ] {
         let bytes = line_of(&text, &format!("| {calls} | ")).trim_end_matches(" |");
         for name in names {

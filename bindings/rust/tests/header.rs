@@ -124,7 +124,7 @@ fn each_function_asks_for_the_interface() {
     let binding = text("bindings/rust/src/lib.rs");
     let calls = binding.matches("raw::journal_").count();
     let asked = binding.matches("ask(|answer| ").count();
-    assert_eq!((calls, asked), (8, 7));
+    assert_eq!((calls, asked), (7, 6));
 }
 
 #[test]

@@ -162,38 +162,3 @@ fn undo() {
     assert_eq!(undo_without(2), (0, 80, [1, 0, 0], 320));
     assert_eq!(undo_without(5), (0, 20, [0, 1, 0], 500));
 }
-
-/// Lineage of sale 1 from itself with one loan null: journal, table, bad, line, or none.
-fn lineage_without(loan: usize) -> (u32, u64, [u32; 2]) {
-    let (journal, table, bad) = (sale(), [320], [1]);
-    let (mut line, mut answer) = ([9; 2], 9);
-    let length = |index, elements| if index == loan { 0 } else { elements };
-    // SAFETY: every pointer is null with length 0, or of an array of that length that nothing else uses.
-    let number = unsafe {
-        raw::journal_lineage(
-            if loan == 0 { null() } else { journal.as_ptr() },
-            length(0, 80),
-            if loan == 1 { null() } else { table.as_ptr() },
-            length(1, 1),
-            if loan == 2 { null() } else { bad.as_ptr() },
-            length(2, 1),
-            1,
-            if loan == 3 {
-                null_mut()
-            } else {
-                line.as_mut_ptr()
-            },
-            length(3, 2),
-            &mut answer,
-        )
-    };
-    (number, answer, line)
-}
-
-#[test]
-fn lineage() {
-    for (loan, refusal) in [(0, 1), (1, 3), (2, 16), (3, 14)] {
-        assert_eq!(lineage_without(loan), (refusal, 0, [9; 2]));
-    }
-    assert_eq!(lineage_without(4), (0, 1, [1, 9]));
-}

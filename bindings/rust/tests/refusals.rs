@@ -1,9 +1,9 @@
-//! Each refusal displays its word, document 01's up to 15, and the place where its number has one.
+//! Each refusal displays document 01's word, and the place where its number has one.
 
 use journal::{chain, start, Item, Lsn, Place, Reason, Refusal, Transaction};
 
 /// Number, word, and the column "place given" where the place is 7; in the others it is 0.
-const TABLE: [(u32, &str, Place); 16] = [
+const TABLE: [(u32, &str, Place); 15] = [
     (1, "torn", Place::None),
     (2, "head", Place::None),
     (3, "table", Place::None),
@@ -19,7 +19,6 @@ const TABLE: [(u32, &str, Place); 16] = [
     (13, "marks", Place::None),
     (14, "paper", Place::None),
     (15, "tally", Place::None),
-    (16, "not taken back", Place::None),
 ];
 
 #[test]
@@ -51,7 +50,7 @@ fn each_number_has_its_reason() {
 
 #[test]
 fn a_number_that_no_call_returns_has_no_reason() {
-    for number in [0, 17, u32::MAX] {
+    for number in [0, 16, u32::MAX] {
         let refusal = Refusal::new(number, 3);
         assert_eq!(refusal.reason(), None);
         assert_eq!(refusal.place, Place::Other(3));

@@ -2,4 +2,3 @@ pub mod EndCodes
 pub mod Found
 pub mod ArraysLaws
 pub mod WriterLaws
-pub mod Committed

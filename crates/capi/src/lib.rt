@@ -5,14 +5,11 @@
 ghost use Rattle.std.specs.Prelude.{◌≡◌};
 ghost use Rattle.journal.specs.Inputs.{inputs_of};
 ghost use Rattle.journal.specs.Calls as calls;
-ghost use Rattle.journal.specs.Lineage as lines;
 ghost use Rattle.c_answers.specs.Results.{result_of, answer_with, loan_with, answer_in, record_counts_in, count_list};
 ghost use Rattle.c_calls.specs.Leaves.{started_in, walked_in, counted_in};
 ghost use Rattle.c_append.specs.Leaves.{AppendLeaves, appended_in};
 ghost use Rattle.c_undo.specs.Leaves.{UndoLeaves, undo_result_in};
-ghost use Rattle.c_lineage.specs.Leaves.{lineage_in};
 ghost use Rattle.certified.specs.Promises.{StartPromise, AppendPromise, CheckPromise, ChainPromise, CountPromise, UndoPromise};
-ghost use Rattle.certified.specs.Promises.{LineagePromise};
 
 // The interface's number, in the name too: it rises when a signature changes, so that a program does not link with another
 // interface than it was written for.
@@ -141,30 +138,4 @@ pub extern "C" fn journal_undo(
     c_undo::undo(
         journal, table, bad, status, out, surviving, undone, aborted, answer,
     )
-}
-
-// How the listed transactions draw one in: the shortest line from a listed one to `transaction`, at the front of `line` (document 02,
-// request 4).
-#[unsafe(no_mangle)]
-pub extern "C" fn journal_lineage(
-    journal: &[u8],
-    table: &[i32],
-    bad: &[u16],
-    transaction: u16,
-    line: &mut [u32],
-    answer: &mut u64,
-) -> u32
-    ensures result { result
-        ≡ result_of (lines.lineage (inputs_of journal.now table.now) bad.now transaction
-        line.old).answer }
-    ensures answer { answer.new
-        ≡ answer_with (λ n. n) (lines.lineage (inputs_of journal.now table.now) bad.now transaction
-        line.old).answer }
-    ensures line { line.new
-        ≡ (lines.lineage (inputs_of journal.now table.now) bad.now transaction
-        line.old).line }
-    ensures demands { LineagePromise (inputs_of journal.now table.now) bad.now transaction
-        line.old (lineage_in result answer.new line.new) }
-{
-    c_lineage::lineage(journal, table, bad, transaction, line, answer)
 }

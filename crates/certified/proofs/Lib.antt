@@ -4,4 +4,3 @@ pub mod ChainLaws
 pub mod AppendLaws
 pub mod CountLaws
 pub mod UndoLaws
-pub mod LineageLaws

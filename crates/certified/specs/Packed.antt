@@ -3,7 +3,6 @@
 use Rattle.std.specs.Prelude.{List, ℕ}
 use Rattle.model.specs.History.{Amount}
 use Rattle.journal.specs.Calls as calls
-use Rattle.journal.specs.Lineage.{LineageResult}
 use Rattle.init.specs.declared.Init.{Init}
 use Rattle.init.specs.Answers as init
 use Rattle.append.specs.declared.Appended.{Appended}
@@ -13,8 +12,6 @@ use Rattle.chain.specs.declared.Walk.{Walk}
 use Rattle.chain.specs.Answers as chain
 use Rattle.deliver.specs.declared.Undone.{Undone}
 use Rattle.deliver.specs.Answers as deliver
-use Rattle.lineage.specs.declared.Descent.{Descent}
-use Rattle.lineage.specs.Answers as lineage
 
 abbrev pub started_of : Init → List ℕ → calls.StartResult
 started_of r journal = record { answer = init.answer_of r; journal = journal }
@@ -28,6 +25,3 @@ walked_of r lsns = record { answer = chain.answer_of r; lsns = lsns }
 
 abbrev pub undone_of : Undone → List Amount → List ℕ → List ℕ → calls.UndoResult
 undone_of r table status out = record { answer = deliver.answer_of r; table = table; status = status; out = out }
-
-abbrev pub lineage_of : Descent → List ℕ → LineageResult
-lineage_of r line = record { answer = lineage.answer_of r; line = line }

@@ -15,20 +15,16 @@ use Rattle.journal.specs.Inputs.{Inputs, inputs_of, handed_on}
 use Rattle.journal.specs.Journal.{count, items, whole, amount_at}
 use Rattle.journal.specs.Refusals.{RecordCounts, counts_by_kind, unsettled, still_active, unknown}
 use Rattle.journal.specs.Orders.{decide, open_order, sound_order, start_order, check_order, chain_order, append_order, undo_order}
-use Rattle.journal.specs.Orders.{lineage_order}
 use Rattle.journal.specs.Copy.{copy}
 use Rattle.journal.specs.Calls.{Answer, refused, accepted, written, chain_of, new_record, raised, opening_table}
 use Rattle.journal.specs.Calls.{StartResult, AppendResult, ChainResult, UndoTotals, UndoResult}
-use Rattle.journal.specs.Lineage.{line_of, LineageResult}
 use Rattle.demands.specs.Days.{accepts, records_of, Chained, Pass, PassFinished}
 use Rattle.demands.specs.Appending.{AppendCall}
 use Rattle.demands.specs.Undoing.{Accepting, copy_in, RepairedDay, status_at, StatusMeaning, FewestTransactions, Deleted}
 use Rattle.demands.specs.Refusing.{start_numbers, check_numbers, count_numbers, chain_numbers, append_numbers, undo_numbers}
-use Rattle.demands.specs.Refusing.{lineage_numbers, LineageRefused}
 use Rattle.demands.specs.Refusing.{StartRefused, Unopened, CheckRefused, ChainRefused, AppendRefused, UndoRefused, Lowest}
 use Rattle.demands.specs.Demands.{Refuses}
 use Rattle.demands.specs.Requests.{sum_left}
-use Rattle.demands.specs.Lineage.{Descends, Asking}
 use Rattle.chain.specs.Visits.{lsns_of}
 
 -- ---- start
@@ -143,20 +139,4 @@ pub record UndoPromise (d : Inputs) (bad status out : List ℕ) (r : UndoResult)
   pub lowest_record : (number i : ℕ) → 4 ≤ number → number ≤ 9 → r.answer ≡ refused number i → Lowest d.journal number i
   pub lowest_item : (x : ℕ) → r.answer ≡ refused 10 x → (y : ℕ) → y < x → unsettled d.journal d.table y ≡ false
   pub lowest_transaction : (s : ℕ) → r.answer ≡ refused 11 s → (v : ℕ) → 1 ≤ v → v < s → still_active d.journal v ≡ false
-  pub lowest_position : (k : ℕ) → r.answer ≡ refused 12 k → (i : ℕ) → i < k → unknown d.journal (get_or bad i 0) ≡ false
-
--- ---- the line of descent
-
--- a call for the line of sale s that was lent d, a list and l, and answered and left r
-pub record LineagePromise (d : Inputs) (bad : List ℕ) (s : ℕ) (l : List ℕ) (r : LineageResult) : Type 0 where
-  -- it accepts exactly a sale that take-back with this list takes back, where l holds the line
-  pub acceptance : (accepts r.answer ≡ true) ↔ Asking d bad s l
-  -- what it wrote is the line that document 02 asks for, and no more; its length is answered
-  pub descends : (n : ℕ) → r.answer ≡ accepted n → Descends d.journal bad s l r n
-  pub refuses : Refuses lineage_numbers (r.line ≡ l) (LineageRefused d bad s l)
-      (lineage_order d bad s l (length (line_of d.journal bad s))) r.answer
-  -- of records the lowest, then the lowest number; of items, sales and list positions the lowest
-  pub lowest_record : (number i : ℕ) → 4 ≤ number → number ≤ 9 → r.answer ≡ refused number i → Lowest d.journal number i
-  pub lowest_item : (x : ℕ) → r.answer ≡ refused 10 x → (y : ℕ) → y < x → unsettled d.journal d.table y ≡ false
-  pub lowest_transaction : (u : ℕ) → r.answer ≡ refused 11 u → (v : ℕ) → 1 ≤ v → v < u → still_active d.journal v ≡ false
   pub lowest_position : (k : ℕ) → r.answer ≡ refused 12 k → (i : ℕ) → i < k → unknown d.journal (get_or bad i 0) ≡ false

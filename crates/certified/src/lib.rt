@@ -6,13 +6,12 @@ ghost use Rattle.std.specs.Prelude.{◌≡◌};
 ghost use Rattle.journal.specs.Inputs.{inputs_of};
 ghost use Rattle.journal.specs.Journal.{amount_at};
 ghost use Rattle.journal.specs.Calls as calls;
-ghost use Rattle.journal.specs.Lineage as lines;
 ghost use Rattle.counts.specs.Answers as counting;
 ghost use Rattle.counts.specs.Answers.{record_counts_of};
 ghost use Rattle.validate.specs.Answers as validate;
-ghost use Rattle.certified.specs.Packed.{started_of, appended_of, walked_of, undone_of, lineage_of};
+ghost use Rattle.certified.specs.Packed.{started_of, appended_of, walked_of, undone_of};
 ghost use Rattle.certified.specs.Promises.{StartPromise, AppendPromise, CheckPromise, ChainPromise, CountPromise};
-ghost use Rattle.certified.specs.Promises.{UndoPromise, LineagePromise};
+ghost use Rattle.certified.specs.Promises.{UndoPromise};
 
 use append::Appended;
 use chain::Walk;
@@ -20,7 +19,6 @@ use counts::{Counted, Counts};
 use deliver::Undone;
 use format::{Key, TransactionId};
 use init::Init;
-use lineage::Descent;
 use validate::Checked;
 
 // Starts a journal of this many items (document 01, start).
@@ -101,21 +99,4 @@ pub fn undo(
         status.old out.old (undone_of result table.new status.new out.new) }
 {
     undo::undo(journal, table, bad, status, out)
-}
-
-// How a list draws one transaction in: the shortest line from a listed one to it (document 02, request 4).
-pub fn lineage(
-    journal: &[u8],
-    table: &[i32],
-    bad: &[u16],
-    transaction: TransactionId,
-    line: &mut [u32],
-) -> Descent
-    ensures result { lineage_of result line.new
-        ≡ lines.lineage (inputs_of journal.now table.now) bad.now transaction.0
-        line.old }
-    ensures demands { LineagePromise (inputs_of journal.now table.now) bad.now
-        transaction.0 line.old (lineage_of result line.new) }
-{
-    lineage::lineage(journal, table, bad, transaction, line)
 }

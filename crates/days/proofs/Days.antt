@@ -8,10 +8,9 @@ use Rattle.lists.proofs.BoolLaws.{by_cases}
 use Rattle.example.specs.Example.{example, example_table}
 use Rattle.journal.specs.Inputs.{inputs_of}
 use Rattle.journal.specs.Calls.{start, append, check, chain, count_records, undo}
-use Rattle.journal.specs.Lineage.{lineage}
 use Rattle.days.proofs.Computed.{computed}
-use Rattle.days.proofs.Tests.{starts, appends, checks, chains, countings, undos, lineages}
-use Rattle.days.specs.Days.{Row, starting, appending, checking, chaining, counting, undoing, descending, Holds, AllHold, done, ◌&◌, status_buffer, blank, example_left, days, OwnRewrite, SecondRecord, RepeatedName}
+use Rattle.days.proofs.Tests.{starts, appends, checks, chains, countings, undos}
+use Rattle.days.specs.Days.{Row, starting, appending, checking, chaining, counting, undoing, Holds, AllHold, done, ◌&◌, status_buffer, blank, example_left, days, SecondRecord, RepeatedName}
 
 -- the call gives what the row says
 abbrev passes : Row → Bool
@@ -21,7 +20,6 @@ passes (checking b t e) = checks.same (check (inputs_of b t)) e
 passes (chaining b s l e) = chains.same (chain b s l) e
 passes (counting b e) = countings.same (count_records b) e
 passes (undoing b t bad m o e) = undos.same (undo (inputs_of b t) bad m o) e
-passes (descending b t bad s l e) = lineages.same (lineage (inputs_of b t) bad s l) e
 
 passes-holds : (r : Row) → passes r ≡ true → Holds r
 passes-holds (starting b n e) = starts.means (start b n) e
@@ -30,7 +28,6 @@ passes-holds (checking b t e) = checks.means (check (inputs_of b t)) e
 passes-holds (chaining b s l e) = chains.means (chain b s l) e
 passes-holds (counting b e) = countings.means (count_records b) e
 passes-holds (undoing b t bad m o e) = undos.means (undo (inputs_of b t) bad m o) e
-passes-holds (descending b t bad s l e) = lineages.means (lineage (inputs_of b t) bad s l) e
 
 -- the positions, from k on, of the rows that do not pass
 abbrev failing : ℕ → List Row → List ℕ
@@ -53,10 +50,6 @@ none-failing k (r ∷ rs) e =
 pub days-hold : AllHold days
 unfolding computed
 days-hold = none-failing 1 days refl
-
-pub own-rewrite : OwnRewrite
-unfolding computed
-own-rewrite = record { ahead = refl; behind = refl; other = refl; own = refl }
 
 pub second-record : SecondRecord
 unfolding computed

@@ -11,7 +11,6 @@ use Rattle.model.specs.History.{Amount, same_amount}
 use Rattle.model.proofs.Amounts.{same-eq}
 use Rattle.journal.specs.Refusals.{RecordCounts}
 use Rattle.journal.specs.Calls.{Answer, refused, accepted, StartResult, ChainResult, AppendResult, UndoTotals, UndoResult}
-use Rattle.journal.specs.Lineage.{LineageResult}
 
 -- a test, and what it means
 pub record Equality (A : Type 0) : Type 0 where
@@ -138,6 +137,3 @@ undos =
     (λ r. ((r.answer, r.table), (r.status, r.out)))
     (λ p. record { answer = p.0.0; table = p.0.1; status = p.1.0; out = p.1.1 })
     (λ r. refl)
-
-abbrev pub lineages : Equality LineageResult
-lineages = fields (pairs (answers numbers) (lists numbers)) (λ r. (r.answer, r.line)) (λ p. record { answer = p.0; line = p.1 }) (λ r. refl)

@@ -19,7 +19,7 @@ use Rattle.journal.specs.Results as results
 use Rattle.journal.specs.Results.{Answer, refused, accepted, totals, result}
 use Rattle.journal.proofs.OrdersLaws.{decide-yes, decide-no}
 use Rattle.journal.proofs.ResultsLaws.{length-status_vector}
-use Rattle.arrays.proofs.Committed.{coded-aborted}
+use Rattle.trace.proofs.Ends.{coded-aborted}
 use Rattle.repair.specs.Copying.{Ranked, copy_with}
 use Rattle.repair.proofs.Repaired.{copy-surviving, copy-size}
 use Rattle.replay.specs.Replaying.{left_after}

@@ -22,12 +22,11 @@ use Rattle.format.proofs.LayoutLaws.{length-bytes_of, record_at-front}
 use Rattle.model.specs.History.{Op, Amount, of_tx, tag_in, later_of}
 use Rattle.journal.specs.Inputs.{Inputs, onto}
 use Rattle.journal.specs.Journal.{count, items, tx_in, records, history, whole}
-use Rattle.journal.specs.Refusals.{RecordCounts, short, truncated, bad_head, wrong_table, wrong_next, unsettled, still_active, unknown, absent, no_room, wrong_counts, not_undone}
-use Rattle.journal.specs.Orders.{Refusal, try_each, decide, open_order, record_order, records_order, sound_order, table_order, settled_order, active_order, known_order, present_order, capacity_order, counts_order, new_order, check_order, chain_order, append_order, undo_order, lineage_order, undone_order, start_order}
+use Rattle.journal.specs.Refusals.{RecordCounts, short, truncated, bad_head, wrong_table, wrong_next, unsettled, still_active, unknown, absent, no_room, wrong_counts}
+use Rattle.journal.specs.Orders.{Refusal, try_each, decide, open_order, record_order, records_order, sound_order, table_order, settled_order, active_order, known_order, present_order, capacity_order, counts_order, new_order, check_order, chain_order, append_order, undo_order, start_order}
 use Rattle.journal.specs.Copy.{CopyRule, unchanged, records_surviving, copy_surviving, copy, head_with}
 use Rattle.journal.specs.Results.{table_surviving, totals, result}
 use Rattle.journal.specs.Calls.{check, walk, chain_of, chain, link, extended, new_record, append, count_records, undo, opening_at, start}
-use Rattle.journal.specs.Lineage.{line_of, lineage}
 use Rattle.model.proofs.Extension.{first-tag, latest-tag}
 use Rattle.journal.proofs.OrdersLaws.{decide-turns, decide-cases, try_each-ext}
 use Rattle.journal.proofs.Clear.{decide-clear}
@@ -153,14 +152,6 @@ module _ (b c : List ℕ) (a : Agree b c) where
   undo-order : (d : Inputs) (bad status out : List ℕ) → undo_order (onto b d) bad status out (length (copy bad b)) ≡ undo_order (onto c d) bad status out (length (copy bad c))
   unfolding undo_order known_order unknown
   undo-order d bad status out = rw (check-order d, active-agree, whole_agree, copy-agree bad)
-
-  line-agree : (bad : List ℕ) (s : ℕ) → line_of b bad s ≡ line_of c bad s
-  unfolding line_of
-  line-agree bad s = rw whole_agree
-
-  lineage-agree : (d : Inputs) (bad : List ℕ) (s : ℕ) (l : List ℕ) → lineage (onto b d) bad s l ≡ lineage (onto c d) bad s l
-  unfolding lineage lineage_order known_order unknown undone_order not_undone
-  lineage-agree d bad s l = rw (check-order d, active-agree, whole_agree, line-agree bad s)
 
   undo-agree : (d : Inputs) (bad status out : List ℕ) → undo (onto b d) bad status out ≡ undo (onto c d) bad status out
   unfolding undo
@@ -297,7 +288,6 @@ behind =
       chain = λ b c s l a. chain-agree b c a s l;
       count_records = count-agrees;
       undo = λ d c bad status out a. undo-agree d.journal c a d bad status out;
-      lineage = λ d c bad s l a. lineage-agree d.journal c a d bad s l;
       behind = behind-append;
       append = λ d c n kind s x v a e. append-agree d.journal c a d n kind s x v e;
     }

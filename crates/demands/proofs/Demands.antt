@@ -43,12 +43,6 @@ demand-1 =
         only_under = only_under.count_records b;
         exactly = exactly.count_records b;
       };
-      lineage = λ d bad s l. record {
-        answered = answered-all.lineage d bad s l;
-        untouched = untouched.lineage d bad s l;
-        only_under = only_under.lineage d bad s l;
-        exactly = exactly.lineage d bad s l;
-      };
       lowest_record = lowest-record;
       lowest_place = lowest-place;
     }

@@ -14,5 +14,4 @@ pub mod ReadsFrom
 pub mod Onto
 pub mod Counting
 pub mod Demands
-pub mod Lineage
 pub mod Requests

@@ -1,7 +1,7 @@
 -- The reads-from rule of specs/ReadsFrom.antt, proved.
 -- Assumes nothing.
 use mathlib.Core.Path.{◌≡◌, refl, ap, ◌∙◌}
-use mathlib.Core.Bool.{Bool, true, false, not, ◌&&◌}
+use mathlib.Core.Bool.{Bool, true, false, not, ◌&&◌, and-true}
 use mathlib.Core.List.{[], ◌∷◌, head-eq_of_cons-eq}
 use mathlib.Core.Option.{Option, none, some, none-ne-some, some-injective}
 use Prim.Native.Nat.{ℕ, ◌≤◌}
@@ -15,7 +15,7 @@ use Rattle.lists.proofs.SearchLaws.{any_some, latest-none}
 use Rattle.model.specs.History.{Op, History, Amount, Tag, read, write, commit, abort, other, tx_of, write_of, write_to, commit_of, abort_of, end_of, committed, aborted, ended}
 use Rattle.model.specs.Undo.{is_source, Upto, all, more, reads_from, source_by, visible_to}
 use Rattle.model.proofs.Ends.{upto-length, upto-unique, tail-ends, EndsLast, not-aborted, committed-unaborted}
-use Rattle.model.proofs.ReadsFromLaws.{is_source-changed, changed-is_source, reads_from-by}
+use Rattle.model.proofs.ReadsFromLaws.{is_source-write, reads_from-by}
 use Rattle.model.proofs.Legal.{Legal}
 use Rattle.model.proofs.Strict.{legal-ends_last, Alone, alone-read}
 use Rattle.model.proofs.Repair.{legal-ends}
@@ -63,18 +63,17 @@ module _ (f : Op → Bool) where
 
 module _ (p : History) (s x : ℕ) where
   source-passes : {w : Op} → Source p s x w → source_by is_source (visible_to p s) x w ≡ true
-  source-passes (by_itself {i} {b} {a} n) =
-      and_both _ _ (and_both _ _ (eq-eqb x x refl) (or_left (eqb s s) (committed p s) (eq-eqb s s refl))) (is_source-changed i s x b a n)
-  source-passes (by-committed {i} {v} {b} {a} n c) =
-      and_both _ _ (and_both _ _ (eq-eqb x x refl) (or_right (eqb s v) (committed p v) c)) (is_source-changed i v x b a n)
+  source-passes (by_itself {i} {b} {a}) =
+      and_both _ _ (and_both _ _ (eq-eqb x x refl) (or_left (eqb s s) (committed p s) (eq-eqb s s refl))) (is_source-write i s x b a)
+  source-passes (by-committed {i} {v} {b} {a} c) =
+      and_both _ _ (and_both _ _ (eq-eqb x x refl) (or_right (eqb s v) (committed p v) c)) (is_source-write i v x b a)
 
   passes-source : (w : Op) → source_by is_source (visible_to p s) x w ≡ true → Source p s x w
   passes-source (read i v y) e = clash e refl
   passes-source (write i v y b a) e =
       let h = and_left (eqb x y && visible_to p s v) _ e in
-      let n = changed-is_source i v y b a (and_right (eqb x y && visible_to p s v) _ e) in
       rw (← eqb-true x y (and_left (eqb x y) _ h))
-      (or_cases (eqb s v) (committed p v) (and_right (eqb x y) _ h) (λ q. rw (← eqb-true s v q) (by_itself n)) (by-committed n))
+      (or_cases (eqb s v) (committed p v) (and_right (eqb x y) _ h) (λ q. rw (← eqb-true s v q) by_itself) by-committed)
   passes-source (commit i v) e = clash e refl
   passes-source (abort i v) e = clash e refl
   passes-source (other i v) e = clash e refl
@@ -126,11 +125,11 @@ visible_to-unaborted o p s x c n a v w =
     (λ h. rw (e, h, committed-unaborted v p c h))
     (λ h. by_cases (ended p v) (λ d. rw (e, h, ended-aborted v p d h)) (λ d. clash w (a v e d))))
 
--- a write by a transaction of a set, by its item and its transaction
-latest-sources : (g : ℕ → Bool) (x : ℕ) (p : History) → latest (source_by is_source g x) p ≡ latest (λ w. (write_to x w && g (tx_of w)) && is_source w) p
+-- every write feeds
+latest-sources : (g : ℕ → Bool) (x : ℕ) (p : History) → latest (source_by is_source g x) p ≡ latest (λ w. write_to x w && g (tx_of w)) p
 latest-sources g x [] = refl
 latest-sources g x (read t v y ∷ p) = latest-sources g x p
-latest-sources g x (write t v y b a ∷ p) = rw (latest-sources g x p)
+latest-sources g x (write t v y b a ∷ p) = rw (is_source-write t v y b a, and-true (eqb x y && g v), latest-sources g x p)
 latest-sources g x (commit t v ∷ p) = latest-sources g x p
 latest-sources g x (abort t v ∷ p) = latest-sources g x p
 latest-sources g x (other t v ∷ p) = latest-sources g x p

@@ -15,12 +15,11 @@ use Rattle.format.specs.declared.Record.{Record}
 use Rattle.model.specs.History.{Amount}
 use Rattle.journal.specs.Inputs.{Inputs}
 use Rattle.journal.specs.Journal.{count, items}
-use Rattle.journal.specs.Refusals.{RecordCounts, wrong_counts, wrong_table, unsettled, still_active, unknown, absent, too_short, wrong_status, not_undone}
-use Rattle.journal.specs.Orders.{Refusal, Trial, Order, try, try_each, decide, open_order, table_order, record_order, records_order, settled_order, active_order, known_order, present_order, status_order, undone_order, capacity_order, counts_order, new_order, start_order, check_order, chain_order, append_order, undo_order, lineage_order}
+use Rattle.journal.specs.Refusals.{RecordCounts, wrong_counts, wrong_table, unsettled, still_active, unknown, absent, too_short, wrong_status}
+use Rattle.journal.specs.Orders.{Refusal, Trial, Order, try, try_each, decide, open_order, table_order, record_order, records_order, settled_order, active_order, known_order, present_order, status_order, capacity_order, counts_order, new_order, start_order, check_order, chain_order, append_order, undo_order}
 use Rattle.journal.specs.Copy.{copy}
 use Rattle.journal.specs.Results.{result}
 use Rattle.journal.specs.Calls.{refused, answered, start, check, chain_of, chain, new_record, append, count_records, undo}
-use Rattle.journal.specs.Lineage.{line_of, lineage}
 use Rattle.journal.proofs.Clear.{All, Clear, all_more, all-turns, all-try, all-each, all-tried, decide-all, decide-clear}
 use Rattle.journal.proofs.Deciding.{NumberIn, Label, Labels, try_label, each_label, all-labels, Says, says-turn, elsewhere, stage-decides, each-place, tried-lowest}
 use Rattle.journal.proofs.Answered.{refused-only}
@@ -29,7 +28,7 @@ use Rattle.journal.proofs.Passing.{head-facts}
 use Rattle.journal.proofs.OrdersLaws.{try_holds, decide-turn-some, decide-cases}
 use Rattle.demands.proofs.CopyLaws.{copy-most}
 use Rattle.demands.proofs.DaysLaws.{answered-some}
-use Rattle.demands.specs.Refusing.{Answers, worked_through, refused-by, start_numbers, check_numbers, count_numbers, chain_numbers, append_numbers, undo_numbers, lineage_numbers, Answered, First, here, later, Exactly, Unopened, by-short, by-truncated, by-head, Unsound, by-unopened, by-malformed, by_chain, by-terminated, by-conflict, by-blind, by_before, CheckRefused, by-unsound, by-table, by-final-state, StartRefused, by_bytes, by-items, ChainRefused, unsound-chain, by-absent, by-list, AppendRefused, check-append, by-counts, new-malformed, new-terminated, new-conflict, new-blind, by-room, UndoRefused, check-undo, by-active, by-status, by-unknown, by-capacity, LineageRefused, check-lineage, lineage-active, lineage-unknown, by-not-undone, by-line, OnlyUnder, LowestRecord, Untouched, Lowest, LowestPlace, Enough}
+use Rattle.demands.specs.Refusing.{Answers, worked_through, refused-by, start_numbers, check_numbers, count_numbers, chain_numbers, append_numbers, undo_numbers, Answered, First, here, later, Exactly, Unopened, by-short, by-truncated, by-head, Unsound, by-unopened, by-malformed, by_chain, by-terminated, by-conflict, by-blind, by_before, CheckRefused, by-unsound, by-table, by-final-state, StartRefused, by_bytes, by-items, ChainRefused, unsound-chain, by-absent, by-list, AppendRefused, check-append, by-counts, new-malformed, new-terminated, new-conflict, new-blind, by-room, UndoRefused, check-undo, by-active, by-status, by-unknown, by-capacity, OnlyUnder, LowestRecord, Untouched, Lowest, LowestPlace, Enough}
 
 -- ---- answers
 
@@ -55,7 +54,7 @@ answer-first : {A : Type 0} (o : Order) (a : A) (n p : ℕ) → (answered (decid
 answer-first o a n p = (λ e. decide-first n p o (refused-only n p (decide o) a (sym e)), λ f. some-answered (decide o) a n p (first-decide f))
 
 pub exactly : Exactly
-unfolding start check chain append count_records undo result lineage
+unfolding start check chain append count_records undo result
 exactly =
     record {
       start = λ b n number place. answer-first (start_order b n) tt number place;
@@ -64,7 +63,6 @@ exactly =
       append = λ d c kind s x a number place. answer-first (append_order d c (new_record d.table kind s x a)) tt number place;
       count_records = λ b number place. answer-first (open_order b) _ number place;
       undo = λ d bad status out number place. answer-first (undo_order d bad status out (length (copy bad d.journal))) _ number place;
-      lineage = λ d bad s l number place. answer-first (lineage_order d bad s l (length (line_of d.journal bad s))) _ number place;
     }
 
 -- ---- each number only under its condition
@@ -155,23 +153,8 @@ undo-means d bad status out =
       ),
     )
 
-lineage-means : (d : Inputs) (bad : List ℕ) (s : ℕ) (l : List ℕ) → All (Means (LineageRefused d bad s l)) (lineage_order d bad s l (length (line_of d.journal bad s)))
-unfolding lineage_order active_order known_order undone_order capacity_order
-lineage-means d bad s l =
-    let M = Means (LineageRefused d bad s l) in
-    all-turns M _ (
-      means-more (λ n p. check-lineage) (check-means d),
-      (
-        all-tried M 11 _ _ _ (λ v h m. lineage-active (omega arith) (omega arith)),
-        (
-          all-tried M 12 _ _ _ (λ k h m. lineage-unknown (omega arith)),
-          (all-try M 16 0 _ by-not-undone, (all-try M 14 0 _ by-line, tt)),
-        ),
-      ),
-    )
-
 pub only_under : OnlyUnder
-unfolding start check chain append count_records undo result lineage
+unfolding start check chain append count_records undo result
 only_under =
     record {
       start = λ b n number place e. answer-means (StartRefused b n) _ tt (start-means b n) number place e;
@@ -180,7 +163,6 @@ only_under =
       append = λ d c kind s x a number place e. answer-means (AppendRefused d c (new_record d.table kind s x a)) _ tt (append-means d c (new_record d.table kind s x a)) number place e;
       count_records = λ b number place e. answer-means (Unopened b) _ _ (open-means b) number place e;
       undo = λ d bad status out number place e. answer-means (UndoRefused d bad status out) _ _ (undo-means d bad status out) number place e;
-      lineage = λ d bad s l number place e. answer-means (LineageRefused d bad s l) _ _ (lineage-means d bad s l) number place e;
     }
 
 -- ---- the numbers of the stages
@@ -222,11 +204,6 @@ abbrev undo_labels : (d : Inputs) (bad status out : List ℕ) (n : ℕ)
     ∷ try_each 12 (λ k. unknown d.journal (get_or bad k 0)) 0 (length bad) ∷ try 14 0 (too_short out n) ∷ [])
 undo_labels d bad status out n = (check_label d, (each_label 11 _ _ _, (try_label 13 0 _, (each_label 12 _ _ _, (try_label 14 0 _, tt)))))
 
-abbrev lineage_labels : (d : Inputs) (bad : List ℕ) (s : ℕ) (l : List ℕ) (n : ℕ)
-    → Labels (check_order d ∷ try_each 11 (still_active d.journal) 1 1024 ∷ try_each 12 (λ k. unknown d.journal (get_or bad k 0)) 0 (length bad)
-    ∷ try 16 0 (not_undone d.journal bad s) ∷ try 14 0 (too_short l n) ∷ [])
-lineage_labels d bad s l n = (check_label d, (each_label 11 _ _ _, (each_label 12 _ _ _, (try_label 16 0 _, (try_label 14 0 _, tt)))))
-
 abbrev new_label : (b : List ℕ) (r : Record) → Label (new_order b r)
 new_label b r = (4 ∷ 6 ∷ 7 ∷ 8 ∷ 14 ∷ [], new-all _ b r refl (access-all _ _ _ _ refl refl refl) refl)
 
@@ -258,12 +235,8 @@ undo-numbers : (d : Inputs) (bad status out : List ℕ) (n : ℕ) → All (Numbe
 unfolding undo_order active_order status_order known_order capacity_order
 undo-numbers d bad status out n = all-labels _ (undo_labels d bad status out n)
 
-lineage-numbers : (d : Inputs) (bad : List ℕ) (s : ℕ) (l : List ℕ) (n : ℕ) → All (NumberIn lineage_numbers) (lineage_order d bad s l n)
-unfolding lineage_order active_order known_order undone_order capacity_order
-lineage-numbers d bad s l n = all-labels _ (lineage_labels d bad s l n)
-
 pub answered-all : Answered
-unfolding start check chain append count_records undo result lineage
+unfolding start check chain append count_records undo result
 answered-all =
     record {
       start = λ b n. answers _ _ _ (start-numbers b n);
@@ -272,7 +245,6 @@ answered-all =
       append = λ d c kind s x a. answers _ _ _ (append-numbers d c (new_record d.table kind s x a));
       count_records = λ b. answers count_numbers _ _ (open-all _ b refl refl refl);
       undo = λ d bad status out. answers _ _ _ (undo-numbers d bad status out _);
-      lineage = λ d bad s l. answers _ _ _ (lineage-numbers d bad s l _);
     }
 
 -- ---- the stage that decides
@@ -292,11 +264,6 @@ module _ (n i : ℕ) (d : Inputs) where
   undo-check : (bad status out : List ℕ) (m : ℕ) → 1 ≤ n → n ≤ 10 → decide (undo_order d bad status out m) ≡ refusal → decide (check_order d) ≡ refusal
   unfolding undo_order active_order status_order known_order capacity_order
   undo-check bad status out m l u e = stage-decides 1 10 n i l u _ (undo_labels d bad status out m) refl e
-
-  -- and so for the line of descent
-  lineage-check : (bad : List ℕ) (s : ℕ) (l : List ℕ) (m : ℕ) → 1 ≤ n → n ≤ 10 → decide (lineage_order d bad s l m) ≡ refusal → decide (check_order d) ≡ refusal
-  unfolding lineage_order active_order known_order undone_order capacity_order
-  lineage-check bad s l m low high e = stage-decides 1 10 n i low high _ (lineage_labels d bad s l m) refl e
 
   -- and so for post, but for its own record
   append-check : (c : RecordCounts) (r : Record) → n ≤ 10 → (n ≤ 9 → i ≤ count d.journal) → decide (append_order d c r) ≡ refusal → decide (check_order d) ≡ refusal
@@ -325,7 +292,7 @@ unfolding chain_order present_order capacity_order
 chain-lowest b s l m n i low high e = records-lowest b n i (stage-decides 4 9 n i low high _ (chain_labels b s l m) refl e)
 
 pub lowest-record : LowestRecord
-unfolding check chain append undo result lineage
+unfolding check chain append undo result
 lowest-record =
     record {
       check = λ d n i l u e. check-lowest d n i l u (refused-only n i _ _ (sym e));
@@ -334,8 +301,6 @@ lowest-record =
           check-lowest d n i low high (append-check n i d c (new_record d.table kind s x a) (omega arith) (λ h. within) (refused-only n i _ _ (sym e)));
       undo = λ d bad status out n i low high e.
           check-lowest d n i low high (undo-check n i d bad status out _ (omega arith) (omega arith) (refused-only n i _ _ (sym e)));
-      lineage = λ d bad s l n i low high e.
-          check-lowest d n i low high (lineage-check n i d bad s l _ (omega arith) (omega arith) (refused-only n i _ _ (sym e)));
     }
 
 -- ---- the lowest place
@@ -358,20 +323,8 @@ module _ (d : Inputs) (bad status out : List ℕ) (m : ℕ) where
       tried-lowest (λ k. unknown d.journal (get_or bad k 0)) 0 (length bad) 12 k
       (stage-decides 12 12 12 k (omega arith) (omega arith) _ (undo_labels d bad status out m) refl e) i (omega arith) h
 
-module _ (d : Inputs) (bad : List ℕ) (s : ℕ) (l : List ℕ) (m : ℕ) where
-  line-active-lowest : (u : ℕ) → Says 11 u ((v : ℕ) → 1 ≤ v → v < u → still_active d.journal v ≡ false) (lineage_order d bad s l m)
-  unfolding lineage_order active_order known_order undone_order capacity_order
-  line-active-lowest u e =
-      tried-lowest (still_active d.journal) 1 1024 11 u (stage-decides 11 11 11 u (omega arith) (omega arith) _ (lineage_labels d bad s l m) refl e)
-
-  line-position-lowest : (k : ℕ) → Says 12 k ((i : ℕ) → i < k → unknown d.journal (get_or bad i 0) ≡ false) (lineage_order d bad s l m)
-  unfolding lineage_order active_order known_order undone_order capacity_order
-  line-position-lowest k e i h =
-      tried-lowest (λ k. unknown d.journal (get_or bad k 0)) 0 (length bad) 12 k
-      (stage-decides 12 12 12 k (omega arith) (omega arith) _ (lineage_labels d bad s l m) refl e) i (omega arith) h
-
 pub lowest-place : LowestPlace
-unfolding check append undo result lineage
+unfolding check append undo result
 lowest-place =
     record {
       check_item = λ d x e. item-lowest d x (refused-only 10 x _ _ (sym e));
@@ -380,9 +333,6 @@ lowest-place =
       undo_item = λ d bad status out x e. item-lowest d x (undo-check 10 x d bad status out _ (omega arith) (omega arith) (refused-only 10 x _ _ (sym e)));
       transaction = λ d bad status out s e. active-lowest d bad status out _ s (refused-only 11 s _ _ (sym e));
       position = λ d bad status out k e. position-lowest d bad status out _ k (refused-only 12 k _ _ (sym e));
-      lineage_item = λ d bad s l x e. item-lowest d x (lineage-check 10 x d bad s l _ (omega arith) (omega arith) (refused-only 10 x _ _ (sym e)));
-      lineage_transaction = λ d bad s l u e. line-active-lowest d bad s l _ u (refused-only 11 u _ _ (sym e));
-      lineage_position = λ d bad s l k e. line-position-lowest d bad s l _ k (refused-only 12 k _ _ (sym e));
     }
 
 -- ---- 13, 14 and 15 by their one stage
@@ -431,7 +381,7 @@ enough d bad status out number place marks room e = (
 -- ---- a refused call writes nothing
 
 pub untouched : Untouched
-unfolding start chain append undo result lineage
+unfolding start chain append undo result
 untouched =
     record {
       start = λ b n e. answered-some (decide (start_order b n)) tt _ _ e;
@@ -442,5 +392,4 @@ untouched =
       undo = λ d bad status out e.
           let o = decide (undo_order d bad status out (length (copy bad d.journal))) in
           (answered-some o _ _ _ e, answered-some o _ _ _ e, answered-some o _ _ _ e);
-      lineage = λ d bad s l e. answered-some (decide (lineage_order d bad s l (length (line_of d.journal bad s)))) _ _ _ e;
     }

@@ -20,7 +20,7 @@ use Rattle.model.proofs.Ends.{commit-of}
 use Rattle.journal.specs.Inputs.{Inputs}
 use Rattle.journal.specs.Journal.{count, items, op_of, history, whole}
 use Rattle.journal.specs.Refusals.{still_active, unknown, wrong_status, too_short}
-use Rattle.journal.specs.Orders.{active_order, status_order, known_order, capacity_order, decide, check_order, undo_order}
+use Rattle.journal.specs.Orders.{active_order, status_order, known_order, capacity_order, decide, undo_order}
 use Rattle.journal.specs.Copy.{copy}
 use Rattle.journal.specs.Results.{totals, result}
 use Rattle.journal.specs.Calls.{accepted, UndoTotals, statuses, table_left, undo_totals, undo}
@@ -57,59 +57,46 @@ committed-range b k s e = tx-range b k s (any-mono (commit_of s) (of_tx s) (λ r
 
 -- ---- the order of take-back
 
-pub names-known : (b names : List ℕ) → ((s : ℕ) → member s names ≡ true → committed (whole b) s ≡ true) → Clear (known_order (unknown b) names)
+names-known : (b names : List ℕ) → ((s : ℕ) → member s names ≡ true → committed (whole b) s ≡ true) → Clear (known_order (unknown b) names)
 unfolding known_order unknown
 names-known b names h =
     clear-tried 12 _ _ _ (λ k l n. let e : committed (whole b) (get_or names k 0) ≡ true = h (get_or names k 0) (member-at names k (omega arith)) in rw e)
-
-pub known-names : (b names : List ℕ) → Clear (known_order (unknown b) names) → (s : ℕ) → member s names ≡ true → committed (whole b) s ≡ true
-unfolding known_order unknown
-known-names b names c s m = let (k, h, e) = member-place s names m in rw (← e) (not-false _ (tried-clear 12 _ _ _ c k (omega arith) (omega arith)))
-
--- check's refusals and 11
-pub stages-passing : (d : Inputs) → Clear (check_order d) → Clear (active_order (still_active d.journal)) → PassFinished d
-unfolding active_order still_active
-stages-passing d check actives =
-    let b = d.journal in
-    let k = clear-checks d check in
-    record {
-      pass = checks-pass d k;
-      finished = λ s e.
-          let (l, h) = tx-range b k.sound s e in
-          by_cases (ended (whole b) s) (λ f. f)
-          (λ f. clash (and_both _ _ e (not_of_false _ f)) (tried-clear 11 _ 1 1024 actives s (omega arith) (omega arith)));
-    }
-
-pub finished-clear : (b : List ℕ) → Finished b → Clear (active_order (still_active b))
-unfolding active_order still_active
-finished-clear b f = clear-tried 11 _ _ _ (λ s l n. finished-inactive b f s)
 
 module _ (d : Inputs) (bad status out : List ℕ) where
   abbrev b : List ℕ
   b = d.journal
 
   pub clear-accepting : Clear (undo_order d bad status out (length (copy bad b))) → Accepting b bad status out
-  unfolding undo_order status_order capacity_order wrong_status too_short
+  unfolding undo_order status_order known_order capacity_order unknown wrong_status too_short
   clear-accepting c =
       let (check, (active, (c13, (c12, (c14, end))))) = turns-clear _ c in
       record {
-        names = known-names b bad c12;
+        names = λ s m. let (k, h, e) = member-place s bad m in rw (← e) (not-false _ (tried-clear 12 _ _ _ c12 k (omega arith) (omega arith)));
         status_length = eqb-true _ _ (not-false _ (try-clear 13 _ _ c13));
         capacity = ltb-false _ _ (try-clear 14 _ _ c14);
       }
 
   pub clear-passing : Clear (undo_order d bad status out (length (copy bad b))) → PassFinished d
-  unfolding undo_order
-  clear-passing c = let (check, (actives, rest)) = turns-clear _ c in stages-passing d check actives
+  unfolding undo_order active_order still_active
+  clear-passing c =
+      let (check, (actives, rest)) = turns-clear _ c in
+      let k = clear-checks d check in
+      record {
+        pass = checks-pass d k;
+        finished = λ s e.
+            let (l, h) = tx-range b k.sound s e in
+            by_cases (ended (whole b) s) (λ f. f)
+            (λ f. clash (and_both _ _ e (not_of_false _ f)) (tried-clear 11 _ 1 1024 actives s (omega arith) (omega arith)));
+      }
 
   pub accepting-clear : Checks d → Finished b → Accepting b bad status out → Clear (undo_order d bad status out (length (copy bad b)))
-  unfolding undo_order status_order capacity_order wrong_status too_short
+  unfolding undo_order active_order status_order capacity_order still_active wrong_status too_short
   accepting-clear k f a =
       let m : eqb (length status) 1025 ≡ true = eq-eqb _ _ a.status_length in
       clear-turns _ (
         checks-clear d k,
         (
-          finished-clear b f,
+          clear-tried 11 _ _ _ (λ s l n. finished-inactive b f s),
           (
             clear-try 13 _ _ (rw m),
             (

@@ -10,14 +10,13 @@ use Rattle.std.specs.Prelude.{◌≡◌, false, ◌↔◌, List, ℕ, length}
 use Rattle.model.specs.History.{Amount}
 use Rattle.journal.specs.Inputs.{Inputs}
 use Rattle.journal.specs.Refusals.{RecordCounts}
-use Rattle.journal.specs.Orders.{Order, open_order, start_order, check_order, chain_order, append_order, undo_order, lineage_order}
+use Rattle.journal.specs.Orders.{Order, open_order, start_order, check_order, chain_order, append_order, undo_order}
 use Rattle.journal.specs.Copy.{copy}
 use Rattle.journal.specs.Calls.{Answer, refused, start, check, chain_of, chain, new_record, append, count_records, undo}
-use Rattle.journal.specs.Lineage.{line_of, lineage}
 use Rattle.demands.specs.Days.{accepts}
 use Rattle.demands.specs.Refusing.{Answers, start_numbers, check_numbers, count_numbers, chain_numbers, append_numbers}
-use Rattle.demands.specs.Refusing.{undo_numbers, lineage_numbers, First, StartRefused, Unopened, CheckRefused, ChainRefused, AppendRefused}
-use Rattle.demands.specs.Refusing.{UndoRefused, LineageRefused, LowestRecord, LowestPlace}
+use Rattle.demands.specs.Refusing.{undo_numbers, First, StartRefused, Unopened, CheckRefused, ChainRefused, AppendRefused}
+use Rattle.demands.specs.Refusing.{UndoRefused, LowestRecord, LowestPlace}
 use Rattle.demands.specs.ReadsFrom.{ReadsFrom}
 use Rattle.demands.specs.Undoing.{Acceptance, AcceptedExactly, LeftPasses, LeastSet, Fewest, DeleteModel}
 use Rattle.demands.specs.Incremental.{OnceJoins, OnceDistinct, IncrementalUndo}
@@ -59,9 +58,6 @@ pub record Demand1 : Type 0 where
       (ChainRefused b s l) (chain_order b s l (length (chain_of b s))) (chain b s l).answer
   -- counting the records of a stored journal by kind, which checks no record and is lent nothing that it writes
   pub count_records : (b : List ℕ) → Refuses count_numbers (Unit {0}) (Unopened b) (open_order b) (count_records b)
-  -- the line of descent (document 02, request 4)
-  pub lineage : (d : Inputs) (bad : List ℕ) (s : ℕ) (l : List ℕ) → Refuses lineage_numbers ((lineage d bad s l).line ≡ l)
-      (LineageRefused d bad s l) (lineage_order d bad s l (length (line_of d.journal bad s))) (lineage d bad s l).answer
   -- the places that document 01 gives: among 4 to 9 the lowest record, then the lowest number; the lowest item, sale, list
   -- position
   pub lowest_record : LowestRecord
@@ -76,8 +72,8 @@ pub record Demand2 : Type 1 where
   -- "the table left and the copy written are those of the delete-transaction model": the copy has just the kept sales' records,
   -- each read fed by the same write; the table is their afters set upon the opening table
   pub copy_and_table : DeleteModel
-  -- "with the reads-from rule of the published papers": what feeds a read in both, by the rule that document 02, request 3, puts in
-  -- its place; in a journal that passes this is the papers' among the writes that changed the amount (`papers`)
+  -- "with the reads-from rule of the published papers": what feeds a read in both, by document 01's rule; in a journal that
+  -- passes this is the papers' (`papers`)
   pub reads_from : ReadsFrom
   -- "What posting builds, reading accepts, with the same records and amounts": from start; onto any journal and table that pass;
   -- and onto what a take-back left

@@ -6,5 +6,4 @@ pub mod Incremental
 pub mod Appending
 pub mod Refusing
 pub mod Counting
-pub mod Lineage
 pub mod Requests

@@ -11,12 +11,11 @@ use Rattle.journal.specs.Inputs.{Inputs, onto}
 use Rattle.journal.specs.Journal.{count, items, op_of, history, whole}
 use Rattle.journal.specs.Refusals.{RecordCounts, short, truncated, bad_items, bad_head, wrong_table, malformed, wrong_next, terminated}
 use Rattle.journal.specs.Refusals.{conflicting, blind, mismatched, unsettled, still_active, unknown, absent, wrong_status, too_short}
-use Rattle.journal.specs.Refusals.{no_room, wrong_counts, not_undone}
+use Rattle.journal.specs.Refusals.{no_room, wrong_counts}
 use Rattle.journal.specs.Orders.{Trial, Order, decide, open_order, record_order, start_order, check_order, chain_order, append_order}
-use Rattle.journal.specs.Orders.{undo_order, lineage_order}
+use Rattle.journal.specs.Orders.{undo_order}
 use Rattle.journal.specs.Copy.{copy}
 use Rattle.journal.specs.Calls.{Answer, refused, accepted, start, check, chain_of, chain, new_record, append, count_records, undo}
-use Rattle.journal.specs.Lineage.{line_of, lineage}
 use Rattle.demands.specs.Days.{accepts}
 
 -- ---- accepted, or refused by a number from the list
@@ -45,9 +44,6 @@ append_numbers = check_numbers ++ 15 ∷ 4 ∷ 6 ∷ 7 ∷ 8 ∷ 14 ∷ []
 abbrev pub undo_numbers : List ℕ
 undo_numbers = check_numbers ++ 11 ∷ 13 ∷ 12 ∷ 14 ∷ []
 
-abbrev pub lineage_numbers : List ℕ
-lineage_numbers = check_numbers ++ 11 ∷ 12 ∷ 16 ∷ 14 ∷ []
-
 pub record Answered : Type 0 where
   pub start : (b : List ℕ) (n : ℕ) → Answers start_numbers (start b n).answer
   pub check : (d : Inputs) → Answers check_numbers (check d)
@@ -55,7 +51,6 @@ pub record Answered : Type 0 where
   pub append : (d : Inputs) (c : RecordCounts) (kind s x : ℕ) (a : Amount) → Answers append_numbers (append d c kind s x a).answer
   pub count_records : (b : List ℕ) → Answers count_numbers (count_records b)
   pub undo : (d : Inputs) (bad status out : List ℕ) → Answers undo_numbers (undo d bad status out).answer
-  pub lineage : (d : Inputs) (bad : List ℕ) (s : ℕ) (l : List ℕ) → Answers lineage_numbers (lineage d bad s l).answer
 
 -- ---- exactly the first condition that holds
 
@@ -78,9 +73,6 @@ pub record Exactly : Type 0 where
   pub undo : (d : Inputs) (bad status out : List ℕ) (number place : ℕ)
       → ((undo d bad status out).answer ≡ refused number place)
       ↔ First number place (undo_order d bad status out (length (copy bad d.journal)))
-  pub lineage : (d : Inputs) (bad : List ℕ) (s : ℕ) (l : List ℕ) (number place : ℕ)
-      → ((lineage d bad s l).answer ≡ refused number place)
-      ↔ First number place (lineage_order d bad s l (length (line_of d.journal bad s)))
 
 -- ---- each number only under the condition written for it, at the place that the table names
 
@@ -138,14 +130,6 @@ pub data UndoRefused (d : Inputs) (bad status out : List ℕ) : ℕ → ℕ → 
   by-unknown : {k : ℕ} → k < length bad → unknown d.journal (get_or bad k 0) ≡ true → UndoRefused d bad status out 12 k
   by-capacity : too_short out (length (copy bad d.journal)) ≡ true → UndoRefused d bad status out 14 0
 
--- the line of descent
-pub data LineageRefused (d : Inputs) (bad : List ℕ) (s : ℕ) (l : List ℕ) : ℕ → ℕ → Type 0 where
-  check-lineage : {n p : ℕ} → CheckRefused d n p → LineageRefused d bad s l n p
-  lineage-active : {v : ℕ} → 1 ≤ v → v ≤ max_transaction → still_active d.journal v ≡ true → LineageRefused d bad s l 11 v
-  lineage-unknown : {k : ℕ} → k < length bad → unknown d.journal (get_or bad k 0) ≡ true → LineageRefused d bad s l 12 k
-  by-not-undone : not_undone d.journal bad s ≡ true → LineageRefused d bad s l 16 0
-  by-line : too_short l (length (line_of d.journal bad s)) ≡ true → LineageRefused d bad s l 14 0
-
 pub record OnlyUnder : Type 0 where
   pub start : (b : List ℕ) (n number place : ℕ) → (start b n).answer ≡ refused number place → StartRefused b n number place
   pub check : (d : Inputs) (number place : ℕ) → check d ≡ refused number place → CheckRefused d number place
@@ -156,8 +140,6 @@ pub record OnlyUnder : Type 0 where
   pub count_records : (b : List ℕ) (number place : ℕ) → count_records b ≡ refused number place → Unopened b number place
   pub undo : (d : Inputs) (bad status out : List ℕ) (number place : ℕ)
       → (undo d bad status out).answer ≡ refused number place → UndoRefused d bad status out number place
-  pub lineage : (d : Inputs) (bad : List ℕ) (s : ℕ) (l : List ℕ) (number place : ℕ)
-      → (lineage d bad s l).answer ≡ refused number place → LineageRefused d bad s l number place
 
 -- record i of the journal is the lowest at which one of 4 to 9 holds, and this is the lowest number there
 abbrev pub Lowest : List ℕ → ℕ → ℕ → Type 0
@@ -174,8 +156,6 @@ pub record LowestRecord : Type 0 where
       → (append d c kind s x a).answer ≡ refused number i → Lowest d.journal number i
   pub undo : (d : Inputs) (bad status out : List ℕ) (number i : ℕ) → 4 ≤ number → number ≤ 9
       → (undo d bad status out).answer ≡ refused number i → Lowest d.journal number i
-  pub lineage : (d : Inputs) (bad : List ℕ) (s : ℕ) (l : List ℕ) (number i : ℕ) → 4 ≤ number → number ≤ 9
-      → (lineage d bad s l).answer ≡ refused number i → Lowest d.journal number i
 
 -- 10 gives the lowest such item, 11 the lowest such sale, 12 the lowest list position.
 pub record LowestPlace : Type 0 where
@@ -188,12 +168,6 @@ pub record LowestPlace : Type 0 where
   pub transaction : (d : Inputs) (bad status out : List ℕ) (s : ℕ) → (undo d bad status out).answer ≡ refused 11 s
       → (v : ℕ) → 1 ≤ v → v < s → still_active d.journal v ≡ false
   pub position : (d : Inputs) (bad status out : List ℕ) (k : ℕ) → (undo d bad status out).answer ≡ refused 12 k
-      → (i : ℕ) → i < k → unknown d.journal (get_or bad i 0) ≡ false
-  pub lineage_item : (d : Inputs) (bad : List ℕ) (s : ℕ) (l : List ℕ) (x : ℕ) → (lineage d bad s l).answer ≡ refused 10 x
-      → (y : ℕ) → y < x → unsettled d.journal d.table y ≡ false
-  pub lineage_transaction : (d : Inputs) (bad : List ℕ) (s : ℕ) (l : List ℕ) (u : ℕ) → (lineage d bad s l).answer ≡ refused 11 u
-      → (v : ℕ) → 1 ≤ v → v < u → still_active d.journal v ≡ false
-  pub lineage_position : (d : Inputs) (bad : List ℕ) (s : ℕ) (l : List ℕ) (k : ℕ) → (lineage d bad s l).answer ≡ refused 12 k
       → (i : ℕ) → i < k → unknown d.journal (get_or bad i 0) ≡ false
 
 -- Marks of 1,025 and paper of 64,020 bytes always do: then take-back refuses neither by 13 nor by 14. (The program lends these.)
@@ -212,8 +186,6 @@ pub record Untouched : Type 0 where
       × ((append d c kind s x a).counts ≡ c)
   pub undo : (d : Inputs) (bad status out : List ℕ) → accepts (undo d bad status out).answer ≡ false
       → ((undo d bad status out).table ≡ d.table) × ((undo d bad status out).status ≡ status) × ((undo d bad status out).out ≡ out)
-  pub lineage : (d : Inputs) (bad : List ℕ) (s : ℕ) (l : List ℕ) → accepts (lineage d bad s l).answer ≡ false
-      → (lineage d bad s l).line ≡ l
 
 -- ---- what stands behind the records
 
@@ -232,8 +204,6 @@ pub record Behind : Type 0 where
   pub count_records : (b c : List ℕ) → Agree b c → count_records b ≡ count_records c
   pub undo : (d : Inputs) (c bad status out : List ℕ) → Agree d.journal c
       → undo d bad status out ≡ undo (onto c d) bad status out
-  pub lineage : (d : Inputs) (c bad : List ℕ) (s : ℕ) (l : List ℕ) → Agree d.journal c
-      → lineage d bad s l ≡ lineage (onto c d) bad s l
   pub behind : (d : Inputs) (n : RecordCounts) (kind s x : ℕ) (a : Amount)
       → drop (journal_bytes (count d.journal) + record_bytes) (append d n kind s x a).journal
       ≡ drop (journal_bytes (count d.journal) + record_bytes) d.journal

@@ -6,7 +6,7 @@ use mathlib.Core.List.{List, [], ◌∷◌}
 use mathlib.Core.Option.{none, some, none-ne-some}
 use Prim.Native.Nat.{ℕ}
 use native.Mathlib.Omega.{arith}
-use lib.ListN.{length, get_or, replicate}
+use lib.ListN.{length, replicate}
 use borrow.Author.Tests.{eq-eqb, ne_eqb}
 use Rattle.lists.specs.Search.{or_else}
 use Rattle.model.specs.History.{History}
@@ -14,7 +14,7 @@ use Rattle.journal.specs.Inputs.{Inputs}
 use Rattle.journal.specs.declared.Reason.{Reason}
 use Rattle.journal.specs.Reasons.{number_of, place_of}
 use Rattle.journal.specs.Journal.{count, items, history, whole}
-use Rattle.journal.specs.Refusals.{wrong_table, still_active, unknown, wrong_status}
+use Rattle.journal.specs.Refusals.{wrong_table, still_active, wrong_status}
 use Rattle.journal.specs.Orders.{Order, in_turn, open_order, table_order, records_order, active_order, known_order, status_order, check_order, decide}
 use Rattle.journal.specs.Calls.{refused, accepted, answered}
 use Rattle.journal.proofs.OrdersLaws.{decide-yes, decide-no, decide-one, decide-turn, decide-turn-none, decide-turn-some, try_each-ext}
@@ -27,7 +27,6 @@ use Rattle.fields.specs.Answers.{Size, size_of, header_of, Opened}
 use Rattle.fields.proofs.HeadLaws.{header-parts, header-opened}
 use Rattle.arrays.specs.Arrays.{State, Ready, ends_of}
 use Rattle.arrays.proofs.ArraysLaws.{ends-start, length-ends}
-use Rattle.arrays.proofs.Committed.{coded-committed}
 use Rattle.rules.specs.declared.Verdict.{Verdict}
 use Rattle.rules.specs.declared.Verdict.TheVariants as verdict
 use Rattle.rules.specs.Answers.{verdict_of, refusal_of}
@@ -55,12 +54,6 @@ pub state-zero : (b ends : List ℕ) → ends ≡ ends_of (history b 0) → Stat
 state-zero b ends e =
     let s = state-start b in
     record { ended = e; begun = s.begun; written = s.written; based = s.based; last_read = s.last_read; linked = s.linked }
-
--- ---- 12, from the ends
-
-pub known-examined : {o : Order} {b : List ℕ} {n m : ℕ} {ends : List ℕ} → Examined o b n m ends → (bad : List ℕ) → known_order (unknown b) bad ≡ known_order (unknown_in ends) bad
-unfolding known_order unknown_in unknown whole
-known-examined {b = b} {n = n} {ends = ends} x bad = try_each-ext 12 _ _ 0 (length bad) (λ k l u. rw (coded-committed b n x.ready ends x.ended (get_or bad k 0), ← x.counted))
 
 -- ---- the first stage and the last: an order whose first stage is o, and whose last stage has the verdict v
 

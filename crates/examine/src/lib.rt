@@ -41,7 +41,7 @@ fn finished(ends: &[u8], firsts: &[u32]) -> Verdict
 }
 
 // Refusal 12: the lowest position whose number is no committed transaction's.
-pub fn known(ends: &[u8], bad: &[u16]) -> Verdict
+fn known(ends: &[u8], bad: &[u16]) -> Verdict
     ensures { verdict_of result ≡ decide (known_order (unknown_in ends.now) bad.now) }
 {
     let mut k = 0;

@@ -2,8 +2,8 @@
 -- Assumes nothing.
 use mathlib.Core.Path.{◌≡◌, refl, sym, ◌∙◌, ap}
 use mathlib.Core.Bool.{Bool, true, false, cond}
-use mathlib.Core.List.{List, [], ◌∷◌, head-eq_of_cons-eq, tail-eq_of_cons-eq}
-use Prim.Native.Nat.{ℕ, zero, suc, ◌≤◌, ◌<◌}
+use mathlib.Core.List.{List, [], ◌∷◌}
+use Prim.Native.Nat.{ℕ, zero, suc, ◌≤◌}
 use native.Mathlib.Omega.{arith}
 use lib.Dec.{eqb}
 use borrow.Author.Tests.{eqb-true, eqb-false}
@@ -14,7 +14,6 @@ use Rattle.format.specs.declared.Record.{Record}
 use Rattle.format.specs.Layout.{record_at}
 use Rattle.model.specs.History.{Op, History, Tag, read, write, commit, abort, other, tx_of, tag_of, next_in}
 use Rattle.model.specs.Undo.{Upto, all, more, only, retag, renumber}
-use Rattle.model.proofs.Ends.{upto-length, upto-unique}
 use Rattle.model.proofs.Renumber.{length-renumber}
 use Rattle.journal.specs.Journal.{tx_in, op_of, records, history}
 use Rattle.journal.specs.Copy.{linked_to, CopyRule, unchanged, copied_by, copied}
@@ -86,17 +85,6 @@ history-upto b m (suc n) h =
     by_cases (eqb m (suc n))
     (λ e. rw (eqb-true m (suc n) e) all)
     (λ e. let d = eqb-false m (suc n) e in more (history-upto b m n (omega arith)))
-
--- what stands in a history is one of its records, behind those before it
-pub upto-record : (b : List ℕ) (n : ℕ) {r : Op} {p : History} → Upto (r ∷ p) (history b n)
-    → (i : ℕ) × (i < n) × (p ≡ history b i) × (r ≡ op_of (suc i) (record_at b (suc i)))
-upto-record b n {r} {p} u =
-    let h = upto-length u in
-    let z = length-history b n in
-    let l : suc (length p) ≤ n = omega arith in
-    let e : r ∷ p ≡ op_of (suc (length p)) (record_at b (suc (length p))) ∷ history b (length p) =
-    upto-unique u (history-upto b (suc (length p)) n l) (sym (length-history b (suc (length p)))) ∙ history-suc b (length p) in
-    (length p, omega arith, tail-eq_of_cons-eq e, head-eq_of_cons-eq e)
 
 -- ---- lists of records, newest first
 

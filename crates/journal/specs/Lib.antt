@@ -6,4 +6,3 @@ pub mod Copy
 pub mod Results
 pub mod Calls
 pub mod Reasons
-pub mod Lineage

@@ -1,5 +1,5 @@
 -- The order in which each call tries the refusals, with the place that each gives.
--- Document 01, below the table of reasons; document 02, request 4. Assumes nothing.
+-- Document 01, below the table of reasons. Assumes nothing.
 use Rattle.std.specs.Prelude.{Bool, cond, List, [], ◌∷◌, ◌++◌, ℕ, suc, pred, length, get_or}
 use Rattle.std.proofs.Math.Option.{Option, none, some}
 use Rattle.lists.specs.Tables.{each}
@@ -11,7 +11,7 @@ use Rattle.journal.specs.Inputs.{Inputs}
 use Rattle.journal.specs.Journal.{count, items, op_of, history, whole}
 use Rattle.journal.specs.Refusals.{RecordCounts, short, truncated, bad_items, bad_head, wrong_table, malformed, wrong_next}
 use Rattle.journal.specs.Refusals.{terminated, conflicting, blind, mismatched, unsettled, still_active, unknown, absent}
-use Rattle.journal.specs.Refusals.{wrong_status, too_short, no_room, wrong_counts, not_undone}
+use Rattle.journal.specs.Refusals.{wrong_status, too_short, no_room, wrong_counts}
 
 -- what a refused call returns
 pub record Refusal : Type 0 where
@@ -108,10 +108,6 @@ capacity_order l n = try 14 0 (too_short l n)
 unfoldable pub counts_order : List ℕ → RecordCounts → Order
 counts_order b c = try 15 0 (wrong_counts b c)
 
--- 16
-unfoldable pub undone_order : List ℕ → List ℕ → ℕ → Order
-undone_order b bad s = try 16 0 (not_undone b bad s)
-
 -- 4, 6, 7, 8 for the record that post adds, then 14
 unfoldable pub new_order : List ℕ → Record → Order
 new_order b r =
@@ -142,10 +138,3 @@ undo_order d bad status out n =
     in_turn
     (check_order d ∷ active_order (still_active d.journal) ∷ status_order status ∷ known_order (unknown d.journal) bad
     ∷ capacity_order out n ∷ [])
-
--- the line of descent has take-back's order without 13, and 16 between 12 and 14; the line has `n` sales
-unfoldable pub lineage_order : Inputs → List ℕ → ℕ → List ℕ → ℕ → Order
-lineage_order d bad s l n =
-    in_turn
-    (check_order d ∷ active_order (still_active d.journal) ∷ known_order (unknown d.journal) bad
-    ∷ undone_order d.journal bad s ∷ capacity_order l n ∷ [])

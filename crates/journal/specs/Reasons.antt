@@ -1,10 +1,10 @@
--- The documents' number and place for each reason that the code returns.
+-- Document 01's number and place for each reason that the code returns.
 -- Assumes nothing.
 use Rattle.std.specs.Prelude.{ℕ}
 use Rattle.journal.specs.declared.Reason.{Reason}
 use Rattle.journal.specs.declared.Reason.TheVariants.{Truncated, Header, TableLength, Malformed, Chain, Closed, Conflict}
 use Rattle.journal.specs.declared.Reason.TheVariants.{Blind, BeforeImage, FinalState, Active, Unknown, StatusLength}
-use Rattle.journal.specs.declared.Reason.TheVariants.{Capacity, Counts, NotUndone}
+use Rattle.journal.specs.declared.Reason.TheVariants.{Capacity, Counts}
 
 abbrev pub number_of : Reason → ℕ
 number_of Truncated = 1
@@ -22,7 +22,6 @@ number_of (Unknown k) = 12
 number_of StatusLength = 13
 number_of Capacity = 14
 number_of Counts = 15
-number_of NotUndone = 16
 
 abbrev pub place_of : Reason → ℕ
 place_of Truncated = 0
@@ -40,4 +39,3 @@ place_of (Unknown k) = k
 place_of StatusLength = 0
 place_of Capacity = 0
 place_of Counts = 0
-place_of NotUndone = 0

@@ -1,5 +1,5 @@
--- The reasons for handing it back, 1 to 16, each as a condition of its own.
--- Document 01, "Reasons for handing it back"; 16: document 02, request 4. Assumes nothing.
+-- The reasons for handing it back, 1 to 15, each as a condition of its own.
+-- Document 01, "Reasons for handing it back". Assumes nothing.
 use Rattle.std.specs.Prelude.{Bool, false, cond, not, ◌&&◌, ◌||◌, List, ℕ, ◌+◌, pos, eqb, ltb, leb, length}
 use Rattle.lists.specs.Search.{any, keep}
 use Rattle.format.specs.declared.Record.{Record}
@@ -8,7 +8,6 @@ use Rattle.format.specs.Limits.{record_bytes, journal_bytes, max_records, max_it
 use Rattle.model.specs.History.{Op, History, Amount, same_amount, write_to, of_tx, committed, active, standing, next_in, is_read}
 use Rattle.model.specs.History.{is_write, is_commit, is_abort}
 use Rattle.model.specs.Rules as rules
-use Rattle.model.specs.Undo.{is_source, undone}
 use Rattle.journal.specs.Journal.{count, items, tx_in, whole, amount_at}
 
 -- 1 torn: fewer than 20 bytes ..
@@ -119,7 +118,3 @@ same_counts c d =
 
 unfoldable pub wrong_counts : List ℕ → RecordCounts → Bool
 wrong_counts b c = not (same_counts c (counts_by_kind (whole b)))
-
--- 16 (02, request 4): the sale is not taken back by the list: kept, rolled back, or none of that number
-unfoldable pub not_undone : List ℕ → List ℕ → ℕ → Bool
-not_undone b bad s = not (undone is_source bad (whole b) s)

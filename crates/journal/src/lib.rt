@@ -26,7 +26,6 @@ pub enum Reason {
     StatusLength,
     Capacity,
     Counts,
-    NotUndone,
 }
 
 // Document 01's number of a reason.
@@ -49,7 +48,6 @@ pub fn number(why: Reason) -> u32
         Reason::StatusLength => 13,
         Reason::Capacity => 14,
         Reason::Counts => 15,
-        Reason::NotUndone => 16,
     }
 }
 
@@ -73,6 +71,5 @@ pub fn place(why: Reason) -> u64
         Reason::StatusLength => 0,
         Reason::Capacity => 0,
         Reason::Counts => 0,
-        Reason::NotUndone => 0,
     }
 }

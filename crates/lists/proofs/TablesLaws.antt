@@ -252,7 +252,7 @@ pub count_if-zero : (f : ℕ → Bool) (i : ℕ) → count_if f i 0 ≡ 0
 unfolding count_if
 count_if-zero f i = refl
 
-pub count_if-suc : (f : ℕ → Bool) (i n : ℕ) → count_if f i (suc n) ≡ cond (f i) (suc (count_if f (suc i) n)) (count_if f (suc i) n)
+count_if-suc : (f : ℕ → Bool) (i n : ℕ) → count_if f i (suc n) ≡ cond (f i) (suc (count_if f (suc i) n)) (count_if f (suc i) n)
 unfolding count_if
 count_if-suc f i n = refl
 

@@ -35,22 +35,6 @@ pub fn set_code(codes: &mut [u8], i: usize, v: u8)
     }
 }
 
-// A 16-bit number of an array; 0 behind its end.
-pub fn word_at(words: &[u16], i: usize) -> u16
-    ensures { result ≡ get_or words.now i 0 }
-{
-    if i < words.len() { words[i] } else { 0 }
-}
-
-// Stores a 16-bit number; behind the end of the array nothing.
-pub fn set_word(words: &mut [u16], i: usize, v: u16)
-    ensures { words.new ≡ set words.old i v }
-{
-    if i < words.len() {
-        words[i] = v;
-    }
-}
-
 // One more, if the code is v.
 pub fn one_more(count: u32, code: u8, v: u8) -> u32
     requires { count < 4294967295 }

@@ -12,4 +12,3 @@ pub mod Opening
 pub mod Sets
 pub mod Extension
 pub mod NetLaws
-pub mod LineageLaws

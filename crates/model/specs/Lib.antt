@@ -2,4 +2,3 @@ pub mod History
 pub mod Rules
 pub mod Undo
 pub mod Net
-pub mod Lineage

@@ -1,3 +1,4 @@
 pub mod CodesLaws
 pub mod TraceLaws
+pub mod Ends
 pub mod UndoSet

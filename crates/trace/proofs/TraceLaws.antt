@@ -1,16 +1,13 @@
 -- The trace: what one record does to the arrays, and the arrays after n records, from any arrays and from the list.
 -- Assumes nothing.
 use mathlib.Core.Path.{◌≡◌, refl, sym, ◌∙◌, ap}
-use mathlib.Core.Bool.{Bool, true, false, not, ◌&&◌, and-false}
+use mathlib.Core.Bool.{Bool, false, not, ◌&&◌, and-false}
 use mathlib.Core.List.{List, [], ◌∷◌}
 use mathlib.Core.Option.{Option}
 use Prim.Native.Nat.{ℕ, zero, suc, ◌+◌, ◌≤◌, ◌<◌}
 use native.Mathlib.Omega.{arith}
 use lib.Dec.{eqb}
 use lib.ListN.{length, get_or, set, replicate}
-use mir.Syntax.{w32}
-use mir.Val.{to_z, of_z, SFits}
-use mir.ValLaws.{to_z-of_z}
 use borrow.Author.Tests.{eq-eqb, ne_eqb}
 use Rattle.lists.specs.Search.{member}
 use Rattle.lists.specs.Tables.{stepped}
@@ -18,7 +15,7 @@ use Rattle.lists.proofs.BoolLaws.{by_cases}
 use Rattle.lists.proofs.TablesLaws.{ByIndex, by_index, by-index-all, by-index-same, by-index-set, stepped_start, stepped-suc, stepped-turn}
 use Rattle.format.specs.declared.Record.{Record}
 use Rattle.format.specs.Layout.{record_at}
-use Rattle.model.specs.History.{Op, History, same_amount, read, write, commit, abort, other}
+use Rattle.model.specs.History.{Op, History, read, write, commit, abort, other}
 use Rattle.model.specs.Undo.{is_source, source_by}
 use Rattle.model.proofs.ReadsFromLaws.{is_source-write}
 use Rattle.journal.specs.Journal.{items, tx_in, op_of, history}
@@ -72,19 +69,9 @@ module _ (i : ℕ) (r q : Record) (h : r ≡ q) (ends sources flags : List ℕ) 
   unfolding flags_after
   flags-write k = rw (← h, op_of-write i r k)
 
-  -- a write, by whether it changed the amount, which was found from the bits of its images
-  module _ (changed : Bool) (g : changed ≡ not (same_amount (to_z w32 (of_z w32 r.before)) (to_z w32 (of_z w32 r.after))))
-      (k : r.kind ≡ 2) (f : SFits w32 r.before) (e : SFits w32 r.after) where
-    source_is : is_source (write i (tx_in r) r.item.0 r.before r.after) ≡ changed
-    source_is = rw (is_source-write i (tx_in r) r.item.0 r.before r.after, g, to_z-of_z w32 r.before f, to_z-of_z w32 r.after e)
-
-    pub sources-write : (l : List ℕ) → changed ≡ true → l ≡ sources_write ends (tx_in r) r.item.0 sources → l ≡ sources_after (op_of i q) ends sources
-    unfolding sources_after
-    sources-write l c p = p ∙ rw (← h, op_of-write i r k, source_is, c)
-
-    pub sources-rewrite : changed ≡ false → sources ≡ sources_after (op_of i q) ends sources
-    unfolding sources_after
-    sources-rewrite c = rw (← h, op_of-write i r k, source_is, c)
+  pub sources-write : (l : List ℕ) → r.kind ≡ 2 → l ≡ sources_write ends (tx_in r) r.item.0 sources → l ≡ sources_after (op_of i q) ends sources
+  unfolding sources_after
+  sources-write l k e = e ∙ rw (← h, op_of-write i r k, is_source-write i (tx_in r) r.item.0 r.before r.after)
 
   pub flags-other : (r.kind ≡ 1 → ⊥) → (r.kind ≡ 2 → ⊥) → flags ≡ flags_after (op_of i q) sources flags
   unfolding flags_after
@@ -99,7 +86,7 @@ module _ (i : ℕ) (r q : Record) (h : r ≡ q) (ends sources flags : List ℕ) 
 pub flags-count : (m l : List ℕ) → l ≡ flags_of m → 1025 ≡ length l
 flags-count m l e = rw (e, (flags-array m).size)
 
-pub sources-array : (c : ℕ → Bool) (p : History) → ByIndex (source c p) 1024 (sources_of c p)
+sources-array : (c : ℕ → Bool) (p : History) → ByIndex (source c p) 1024 (sources_of c p)
 unfolding sources_of
 sources-array c p = by_index _ 1024
 
@@ -162,7 +149,7 @@ trace-turn b ends i s sources flags l m e p q = stepped-turn (trace_step b ends)
 
 -- from no source at all and the flags of the list it is the trace
 
-pub trace-all : (b ends bad : List ℕ) (n i : ℕ) → Ready b n → i ≤ n
+trace-all : (b ends bad : List ℕ) (n i : ℕ) → Ready b n → i ≤ n
     → stepped (trace_step b ends) i (replicate 1024 0, flags_of bad) ≡ (sources_of (coded 1 ends) (history b i), flags_of (traced (coded 1 ends) bad (history b i)))
 unfolding trace_step
 trace-all b ends bad n zero k h =

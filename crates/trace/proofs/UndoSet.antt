@@ -1,5 +1,5 @@
--- The trace reaches the transactions that the undo set has: a read of a transaction that commits is fed by the newest earlier write
--- that changed the amount, by a transaction that commits.
+-- The trace reaches the transactions that the undo set has: a read of a transaction that commits is fed by the newest earlier write by
+-- a transaction that commits.
 -- Assumes nothing.
 use mathlib.Core.Path.{◌≡◌, refl, sym, ◌∙◌, ap, fun_ext}
 use mathlib.Core.Bool.{Bool, true, false, cond, not, ◌&&◌}
@@ -29,15 +29,15 @@ use Rattle.journal.specs.Results.{status_vector}
 use Rattle.journal.specs.Calls.{status_of, statuses}
 use Rattle.arrays.specs.Arrays.{Ready, ends_of}
 use Rattle.arrays.proofs.Found.{passing-history}
-use Rattle.arrays.proofs.Committed.{none-committed, coded-committed, committed-coded}
 use Rattle.trace.specs.Codes.{coded, flags_of, fate_of, fates_of}
 use Rattle.trace.specs.Trace.{writer_in, source, traced}
 use Rattle.trace.proofs.CodesLaws.{flag-member}
+use Rattle.trace.proofs.Ends.{none-committed, coded-committed, committed-coded}
 
 -- ---- what feeds
 
 -- a read of a transaction that commits: by then every other writer of the item has ended
-pub reads_from-read : (o : ℕ → Amount) (j : History) (k : Legal o j) {t : Tag} {s x : ℕ} {p : History} → Upto (read t s x ∷ p) j → committed j s ≡ true
+reads_from-read : (o : ℕ → Amount) (j : History) (k : Legal o j) {t : Tag} {s x : ℕ} {p : History} → Upto (read t s x ∷ p) j → committed j s ≡ true
     → reads_from is_source p s x ≡ latest (source_by is_source (committed j) x) p
 reads_from-read o j k {t} {s} {x} {p} i h = reads_from-committed o j k x is_source s (tail-ends i) h (alone-read o x t s p (legal-at o k i))
 
@@ -62,7 +62,7 @@ member-skip v s m false e = refl
 -- ---- the transactions reached
 
 module _ (o : ℕ → Amount) (j : History) (k : Legal o j) (z : committed j 0 ≡ false) (bad : List ℕ) where
-  pub traced-reached : (p : History) → Upto p j → (v : ℕ) → committed j v ≡ true → member v (traced (committed j) bad p) ≡ member v (reached is_source bad p)
+  traced-reached : (p : History) → Upto p j → (v : ℕ) → committed j v ≡ true → member v (traced (committed j) bad p) ≡ member v (reached is_source bad p)
   traced-reached [] i v h = refl
   traced-reached (read t s x ∷ p) i v h =
       let ih = traced-reached p (tail-ends i) in
@@ -81,10 +81,10 @@ module _ (o : ℕ → Amount) (j : History) (k : Legal o j) (z : committed j 0 �
 -- ---- the fates are the statuses
 
 module _ (b : List ℕ) (n : ℕ) (k : Ready b n) (ends : List ℕ) (e : ends ≡ ends_of (history b n)) (bad : List ℕ) where
-  pub legal : Legal (opening (λ x. pos 0) (history b n)) (history b n)
+  legal : Legal (opening (λ x. pos 0) (history b n)) (history b n)
   legal = legal-passing (λ x. pos 0) (history b n) (passing-history b n k.passed)
 
-  pub reached-same : (v : ℕ) → committed (history b n) v ≡ true → member v (traced (coded 1 ends) bad (history b n)) ≡ member v (reached is_source bad (history b n))
+  reached-same : (v : ℕ) → committed (history b n) v ≡ true → member v (traced (coded 1 ends) bad (history b n)) ≡ member v (reached is_source bad (history b n))
   reached-same v h =
       rw (committed-coded b n k ends e)
       (traced-reached _ (history b n) legal (none-committed b n k 0 (λ u. omega arith)) bad (history b n) all v h)

@@ -41,7 +41,7 @@ traced c bad (other t s ∷ p) = traced c bad p
 unfoldable pub flags_read : List ℕ → ℕ → ℕ → List ℕ → List ℕ
 flags_read sources s x flags = cond (not (eqb (get_or sources x 0) 0) && coded 1 flags (get_or sources x 0)) (set flags s 1) flags
 
--- a write of item x by s that changed the amount
+-- a write of item x by s that may feed
 unfoldable pub sources_write : List ℕ → ℕ → ℕ → List ℕ → List ℕ
 sources_write ends s x sources = cond (coded 1 ends s) (set sources x s) sources
 

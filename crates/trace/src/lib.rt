@@ -1,11 +1,10 @@
 // The undo set: each transaction's fate, from one pass over a journal whose records passed.
 #![tactic(auto)]
 
-ghost use Rattle.std.specs.Prelude.{◌≡◌, not, ◌+◌, ◌≤◌, ◌<◌, length, get_or, set};
+ghost use Rattle.std.specs.Prelude.{◌≡◌, ◌+◌, ◌≤◌, ◌<◌, length, get_or, set};
 ghost use Rattle.lists.specs.Tables.{stepped};
 ghost use Rattle.format.specs.Layout.{record_at};
 ghost use Rattle.format.specs.Limits.{journal_bytes, max_records};
-ghost use Rattle.model.specs.History.{same_amount};
 ghost use Rattle.journal.specs.Journal.{op_of, history};
 ghost use Rattle.journal.specs.Calls.{statuses};
 ghost use Rattle.arrays.specs.Arrays.{Ready, ends_of};
@@ -14,7 +13,7 @@ ghost use Rattle.trace.specs.Trace.{traced, flags_read, sources_write, flags_aft
 
 use arrays::code_of;
 use format::{ITEM_SLOTS, Key, Lsn, TRANSACTION_SLOTS, TRANSACTIONS_END, TransactionId, record_at};
-use lists::{set_code, set_word, word_at};
+use lists::set_code;
 
 // The code of transaction s; behind the end of the array nothing.
 fn set_code_of(codes: &mut [u8], s: TransactionId, v: u8)
@@ -24,7 +23,7 @@ fn set_code_of(codes: &mut [u8], s: TransactionId, v: u8)
 }
 
 // A flag for each listed transaction.
-pub fn listed(bad: &[u16]) -> [u8; TRANSACTION_SLOTS]
+fn listed(bad: &[u16]) -> [u8; TRANSACTION_SLOTS]
     ensures { result ≡ flags_of bad.now }
 {
     let mut flags = [0u8; TRANSACTION_SLOTS];
@@ -37,16 +36,24 @@ pub fn listed(bad: &[u16]) -> [u8; TRANSACTION_SLOTS]
     flags
 }
 
-pub fn source_at(sources: &[u16], x: Key) -> TransactionId
+fn source_at(sources: &[u16], x: Key) -> TransactionId
     ensures { result.0 ≡ get_or sources.now x.0 0 }
 {
-    TransactionId(word_at(sources, x.0 as usize))
+    let at = x.0 as usize;
+    if at < sources.len() {
+        TransactionId(sources[at])
+    } else {
+        TransactionId(0)
+    }
 }
 
 fn set_source(sources: &mut [u16], x: Key, s: TransactionId)
     ensures { sources.new ≡ set sources.old x.0 s.0 }
 {
-    set_word(sources, x.0 as usize, s.0);
+    let at = x.0 as usize;
+    if at < sources.len() {
+        sources[at] = s.0;
+    }
 }
 
 // A read of item x by s, fed by a transaction with a flag.
@@ -62,7 +69,7 @@ fn trace_read(sources: &[u16], s: TransactionId, x: Key, flags: &mut [u8])
     }
 }
 
-// A write by s that changed the amount of item x, which feeds later reads if s commits.
+// A write of item x by s, which feeds later reads if s commits.
 fn trace_write(ends: &[u8], s: TransactionId, x: Key, sources: &mut [u16])
     ensures { sources.new ≡ sources_write ends.now s.0 x.0 sources.old }
 {
@@ -72,15 +79,8 @@ fn trace_write(ends: &[u8], s: TransactionId, x: Key, sources: &mut [u16])
     }
 }
 
-// A write changes the amount: from before to another one.
-fn changes(before: i32, after: i32) -> bool
-    ensures { result ≡ not (same_amount before after) }
-{
-    before != after
-}
-
-// Record n + 1 in the trace. A write that leaves the amount as it was feeds no read.
-pub fn trace_record(journal: &[u8], n: u32, ends: &[u8], sources: &mut [u16], flags: &mut [u8])
+// Record n + 1 in the trace.
+fn trace_record(journal: &[u8], n: u32, ends: &[u8], sources: &mut [u16], flags: &mut [u8])
     requires { (journal_bytes (n + 1) ≤ length journal.now) × (n < max_records) }
     ensures { (sources.new
         ≡ sources_after (op_of (n + 1) (record_at journal.now (n + 1))) ends.now sources.old)
@@ -94,9 +94,7 @@ pub fn trace_record(journal: &[u8], n: u32, ends: &[u8], sources: &mut [u16], fl
             trace_read(sources, r.transaction, r.item, flags);
         }
         2 => {
-            if changes(r.before, r.after) {
-                trace_write(ends, r.transaction, r.item, sources);
-            }
+            trace_write(ends, r.transaction, r.item, sources);
         }
         _ => {}
     }
@@ -127,7 +125,7 @@ fn trace(journal: &[u8], n: u32, ends: &[u8], bad: &[u16]) -> [u8; TRANSACTION_S
 }
 
 // The fate of a transaction: 1 surviving, 2 undone, 0 neither.
-pub fn fate(end: u8, flag: u8) -> u8
+fn fate(end: u8, flag: u8) -> u8
     ensures { result ≡ fate_of end flag }
 {
     if end == 1 {

@@ -6,7 +6,7 @@ use mathlib.Core.Option.{none, some}
 use Prim.Native.Nat.{ℕ}
 use native.Mathlib.Omega.{arith}
 use lib.Dec.{ltb}
-use lib.ListN.{length}
+use lib.ListN.{length, get_or}
 use borrow.Author.Tests.{eqb-true, ltb-true, ltb-false}
 use Rattle.lists.specs.Search.{or_else}
 use Rattle.lists.specs.Tables.{coded}
@@ -23,7 +23,7 @@ use Rattle.journal.specs.Orders.{Refusal, in_turn, active_order, known_order, st
 use Rattle.journal.specs.Copy.{unchanged, copy_surviving, copy}
 use Rattle.journal.specs.Results.{Answer, refused, answered, UndoTotals, statuses, result}
 use Rattle.journal.specs.Calls as calls
-use Rattle.journal.proofs.OrdersLaws.{or_else-none, or_else-assoc, decide-over, decide-turn, decide-one, decide-turns}
+use Rattle.journal.proofs.OrdersLaws.{or_else-none, or_else-assoc, decide-over, decide-turn, decide-one, decide-turns, try_each-ext}
 use Rattle.journal.proofs.Clear.{decide-clear, turns-clear, try-clear}
 use Rattle.journal.proofs.Answered.{refused-only}
 use Rattle.fields.specs.declared.Headed.{Headed}
@@ -32,10 +32,9 @@ use Rattle.fields.specs.Answers.{size_of, header_of}
 use Rattle.rules.specs.declared.Verdict.{Verdict}
 use Rattle.rules.specs.declared.Verdict.TheVariants as verdict
 use Rattle.rules.specs.Answers.{verdict_of, refusal_of}
-use Rattle.arrays.proofs.Committed.{none-committed}
+use Rattle.trace.proofs.Ends.{coded-committed, none-committed}
 use Rattle.trace.proofs.UndoSet.{status-length, coded-surviving, coded-undone}
 use Rattle.examine.specs.Stages.{unknown_in, admit_order, examined_order, Examined}
-use Rattle.examine.proofs.Examining.{known-examined}
 use Rattle.deliver.specs.Delivery.{Deliverable, delivered}
 use Rattle.undo.specs.Undoes.{Undoes}
 
@@ -60,10 +59,14 @@ module _ (d : Inputs) (bad status out : List ℕ) where
       refuses (refusal_of why) (order-parts (length (copy bad d.journal)) ∙ rw y)
 
   module _ (n m : ℕ) (ends : List ℕ) (x : Examined (examined_order d) d.journal n m ends) where
+    known_same : known_order (unknown d.journal) bad ≡ known_order (unknown_in ends) bad
+    unfolding known_order unknown_in unknown whole
+    known_same = try_each-ext 12 _ _ 0 (length bad) (λ k l u. rw (coded-committed d.journal n x.ready ends x.ended (get_or bad k 0), ← x.counted))
+
     decides : (z : ℕ) → decide (undo_order d bad status out z) ≡ or_else (decide (admit_order ends bad status)) (decide (capacity_order out z))
     unfolding admit_order
     decides z =
-        order-parts z ∙ rw (x.passed, known-examined x bad)
+        order-parts z ∙ rw (x.passed, known_same)
         (sym (rw (decide-turn (status_order status) (known_order (unknown_in ends) bad ∷ []), decide-one (known_order (unknown_in ends) bad)) (or_else-assoc (decide (status_order status)) (decide (known_order (unknown_in ends) bad)) (decide (capacity_order out z)))))
 
     -- 13 and 12

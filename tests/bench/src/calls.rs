@@ -2,7 +2,7 @@
 
 use crate::days::Day;
 use crate::{library, linear};
-use plain::format::{MAX_TRANSACTION, STATUS_BYTES};
+use plain::format::STATUS_BYTES;
 use plain::{Refusal, Undone};
 
 #[derive(Debug, Clone, Copy, PartialEq, Eq)]
@@ -12,19 +12,11 @@ pub enum Call {
     UndoNone,
     /// Undo with the day's bad list.
     UndoBad,
-    /// The line of descent of one transaction with the day's bad list.
-    Lineage,
     /// Append of the day's last record.
     Append,
 }
 
-pub const CALLS: [Call; 5] = [
-    Call::Check,
-    Call::UndoNone,
-    Call::UndoBad,
-    Call::Lineage,
-    Call::Append,
-];
+pub const CALLS: [Call; 4] = [Call::Check, Call::UndoNone, Call::UndoBad, Call::Append];
 
 impl Call {
     pub fn name(self) -> &'static str {
@@ -32,7 +24,6 @@ impl Call {
             Call::Check => "check",
             Call::UndoNone => "undo, empty list",
             Call::UndoBad => "undo, bad list",
-            Call::Lineage => "line of descent",
             Call::Append => "append",
         }
     }
@@ -47,14 +38,12 @@ pub enum Side {
 pub const SIDES: [Side; 2] = [Side::Proved, Side::Linear];
 
 /// The functions that a count of instructions is taken of; each is entered once a call.
-pub const COUNTED: [&str; 8] = [
+pub const COUNTED: [&str; 6] = [
     "journal_check",
     "journal_undo",
-    "journal_lineage",
     "journal_append",
     "linear_check",
     "linear_undo",
-    "linear_lineage",
     "linear_append",
 ];
 
@@ -78,18 +67,6 @@ fn linear_undo(
 
 #[no_mangle]
 #[inline(never)]
-fn linear_lineage(
-    journal: &[u8],
-    table: &[i32],
-    bad: &[u16],
-    transaction: u16,
-    line: &mut [u32],
-) -> Result<u32, Refusal> {
-    linear::lineage(journal, table, bad, transaction, line)
-}
-
-#[no_mangle]
-#[inline(never)]
 fn linear_append(
     journal: &mut [u8],
     table: &mut [i32],
@@ -107,7 +84,6 @@ fn linear_append(
 pub enum Answer {
     Active(u32),
     Undone(Undone),
-    Line(u32),
     Appended,
 }
 
@@ -119,7 +95,6 @@ pub struct Lent {
     counts: [u32; 4],
     status: Vec<u8>,
     out: Vec<u8>,
-    line: Vec<u32>,
 }
 
 impl Lent {
@@ -131,15 +106,14 @@ impl Lent {
             counts: [0; 4],
             status: vec![0xA5; STATUS_BYTES],
             out: vec![0xA5; bytes],
-            line: vec![0xA5A5_A5A5; MAX_TRANSACTION as usize],
         }
     }
 
-    /// The loans as the call finds them; check lends nothing to be written. Status, out and line are
+    /// The loans as the call finds them; check lends nothing to be written. Status and out are
     /// only written, so they stay as they are.
     pub fn restore(&mut self, call: Call, day: &Day) {
         match call {
-            Call::Check | Call::Lineage => {}
+            Call::Check => {}
             Call::UndoNone | Call::UndoBad => self.table.clone_from(&day.table),
             Call::Append => {
                 self.journal.clone_from(&day.before_last.journal);
@@ -155,7 +129,6 @@ impl Lent {
             Call::Check => self.check(side, day),
             Call::UndoNone => self.undo(side, day, &[]),
             Call::UndoBad => self.undo(side, day, &day.bad),
-            Call::Lineage => self.lineage(side, day),
             Call::Append => self.append(side, day),
         }
     }
@@ -175,15 +148,6 @@ impl Lent {
         };
         let (table, status, out) = (&mut self.table, &mut self.status, &mut self.out);
         undo(&day.journal, table, bad, status, out).map(Answer::Undone)
-    }
-
-    fn lineage(&mut self, side: Side, day: &Day) -> Result<Answer, Refusal> {
-        let lineage = match side {
-            Side::Proved => library::lineage,
-            Side::Linear => linear_lineage,
-        };
-        let line = &mut self.line;
-        lineage(&day.journal, &day.table, &day.bad, day.lineage_of, line).map(Answer::Line)
     }
 
     fn append(&mut self, side: Side, day: &Day) -> Result<Answer, Refusal> {

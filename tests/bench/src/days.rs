@@ -3,7 +3,7 @@
 
 use crate::linear;
 use plain::days::{Append, Random};
-use plain::format::{ABORT, COMMIT, READ, RECORD_BYTES, STATUS_BYTES, WRITE};
+use plain::format::{ABORT, COMMIT, READ, RECORD_BYTES, WRITE};
 
 pub const SIZES: [usize; 4] = [400, 800, 1_600, 3_200];
 
@@ -18,17 +18,6 @@ pub enum Shape {
     Chain,
     /// One item with some 300 reads by 98 transactions between two writes.
     Readers,
-    /// All transactions on one item, as many as there can be: 128 at 400 records, 1,024 at 3,200. Each
-    /// reads what the one before wrote.
-    Longest,
-    /// One transaction feeds all others but the last, which reads from each of those.
-    Fan,
-    /// Two transactions at a time, each of which reads from both before them.
-    Layers,
-    /// Three chains, and a transaction that reads from the end of the first, then from those of the two
-    /// others in turn: half of all records. The lines by way of the three are as short as each other, and
-    /// differ from the front on.
-    Strands,
 }
 
 impl Shape {
@@ -38,24 +27,15 @@ impl Shape {
             Shape::Single => "one transaction",
             Shape::Chain => "dependency chain",
             Shape::Readers => "many readers",
-            Shape::Longest => "longest chain",
-            Shape::Fan => "wide fan",
-            Shape::Layers => "equal lines",
-            Shape::Strands => "lines side by side",
         }
     }
 }
 
-/// The last four are for the line of descent: many transactions on a line, or many lines as short.
-pub const SHAPES: [Shape; 8] = [
+pub const SHAPES: [Shape; 4] = [
     Shape::Interleaved,
     Shape::Single,
     Shape::Chain,
     Shape::Readers,
-    Shape::Longest,
-    Shape::Fan,
-    Shape::Layers,
-    Shape::Strands,
 ];
 
 /// The loans of append before a call, and the record that it adds.
@@ -72,11 +52,8 @@ pub struct Day {
     pub journal: Vec<u8>,
     pub table: Vec<i32>,
     /// Some transactions to undo, by shape: one in twenty of the committed ones (interleaved and
-    /// readers), the only one (single), the first, which all others depend on (else).
+    /// readers), the only one (single), the first one, which all others depend on (chain).
     pub bad: Vec<u16>,
-    /// The last to commit of those undone. On all days but the interleaved ones none has a longer line of
-    /// descent.
-    pub lineage_of: u16,
     /// The day before its last record.
     pub before_last: Loans,
 }
@@ -85,7 +62,7 @@ pub struct Day {
 pub fn day(shape: Shape, records: usize, seed: u64) -> Day {
     let items = match shape {
         Shape::Interleaved | Shape::Single => records as u32 * 8 / 25,
-        _ => 1_024,
+        Shape::Chain | Shape::Readers => 1_024,
     };
     let mut builder = Builder::new(records, items, seed);
     match shape {
@@ -93,23 +70,15 @@ pub fn day(shape: Shape, records: usize, seed: u64) -> Day {
         Shape::Single => single(&mut builder),
         Shape::Chain => chain(&mut builder),
         Shape::Readers => readers(&mut builder),
-        Shape::Longest => longest(&mut builder),
-        Shape::Fan => fan(&mut builder),
-        Shape::Layers => layers(&mut builder),
-        Shape::Strands => strands(&mut builder),
     }
     assert_eq!(builder.room(), 0);
     let one_in_twenty = || builder.commits.iter().skip(7).step_by(20).copied();
-    let bad = match shape {
-        Shape::Interleaved => one_in_twenty().collect(),
-        Shape::Readers => one_in_twenty().filter(|t| t % 99 != 1).collect(),
-        Shape::Single | Shape::Chain | Shape::Longest | Shape::Fan => vec![1],
-        Shape::Layers => vec![2, 1],
-        Shape::Strands => vec![3, 2, 1],
-    };
     Day {
-        lineage_of: builder.last_undone(&bad),
-        bad,
+        bad: match shape {
+            Shape::Interleaved => one_in_twenty().collect(),
+            Shape::Readers => one_in_twenty().filter(|t| t % 99 != 1).collect(),
+            Shape::Single | Shape::Chain => vec![1],
+        },
         journal: builder.journal,
         table: builder.table,
         before_last: builder.before_last.unwrap(),
@@ -146,26 +115,13 @@ impl Builder {
         self.journal.len() / RECORD_BYTES - 1 - self.counts.iter().sum::<u32>() as usize
     }
 
-    /// Adds a record if it is not refused. A write has any amount, at times the one that is there.
+    /// Adds a record if it is not refused.
     fn add(&mut self, kind: u8, transaction: u16, item: u32) -> bool {
         let after = if kind == WRITE {
             self.random.amount()
         } else {
             0
         };
-        self.add_after(kind, transaction, item, after)
-    }
-
-    /// Adds a write of another amount than the item has, so that it feeds.
-    fn change(&mut self, transaction: u16, item: u32) {
-        let mut after = self.random.amount();
-        if after == self.table[item as usize] {
-            after ^= 1;
-        }
-        assert!(self.add_after(WRITE, transaction, item, after));
-    }
-
-    fn add_after(&mut self, kind: u8, transaction: u16, item: u32, after: i32) -> bool {
         let append = Append {
             kind,
             transaction,
@@ -205,34 +161,6 @@ impl Builder {
 
     fn any_item(&mut self) -> u32 {
         self.random.below(self.table.len()) as u32
-    }
-
-    /// A transaction that reads these items, then reads and changes one more, and commits.
-    fn add_link(&mut self, transaction: u16, reads: &[u32], item: u32) {
-        for &item in reads {
-            self.add_all(transaction, &[(READ, item)]);
-        }
-        self.add_all(transaction, &[(READ, item)]);
-        self.change(transaction, item);
-        self.add_all(transaction, &[(COMMIT, 0)]);
-    }
-
-    /// A transaction that reads these items in turn, as long as there is room, and commits.
-    fn add_reader(&mut self, transaction: u16, items: &[u32]) {
-        let reads = self.room() - 1;
-        for &item in items.iter().cycle().take(reads) {
-            self.add_all(transaction, &[(READ, item)]);
-        }
-        self.add_all(transaction, &[(COMMIT, 0)]);
-    }
-
-    /// The last transaction to commit of those that this list undoes.
-    fn last_undone(&self, bad: &[u16]) -> u16 {
-        let (mut table, mut status) = (self.table.clone(), [0; STATUS_BYTES]);
-        let mut out = vec![0; self.journal.len()];
-        linear::undo(&self.journal, &mut table, bad, &mut status, &mut out).unwrap();
-        let is_undone = |&&t: &&u16| status[t as usize] == 2;
-        *self.commits.iter().rev().find(is_undone).unwrap()
     }
 }
 
@@ -306,9 +234,10 @@ fn single(builder: &mut Builder) {
 fn chain(builder: &mut Builder) {
     for transaction in 1..=builder.room() as u16 / 4 {
         let item = u32::from(transaction);
-        builder.add_all(transaction, &[(READ, item - 1), (READ, item)]);
-        builder.change(transaction, item);
-        builder.add_all(transaction, &[(COMMIT, 0)]);
+        builder.add_all(
+            transaction,
+            &[(READ, item - 1), (READ, item), (WRITE, item), (COMMIT, 0)],
+        );
     }
 }
 
@@ -331,55 +260,4 @@ fn readers(builder: &mut Builder) {
         }
         writer += 99;
     }
-}
-
-/// The last one has the records that are left over as reads.
-fn longest(builder: &mut Builder) {
-    let last = builder.room() as u16 * 8 / 25;
-    for transaction in 1..last {
-        builder.add_link(transaction, &[], 0);
-    }
-    builder.add_all(last, &[(READ, 0)]);
-    builder.change(last, 0);
-    builder.add_reader(last, &[0]);
-}
-
-/// Five records for each one between the first and the last: its own four, and the last one's read. The
-/// highest comes first, so that each read brings a lower number.
-fn fan(builder: &mut Builder) {
-    let between = (builder.room() - 4) as u16 / 5;
-    builder.add_link(1, &[], 0);
-    let numbers = || (2..between + 2).rev();
-    for transaction in numbers() {
-        builder.add_link(transaction, &[0], transaction.into());
-    }
-    let items: Vec<u32> = numbers().map(u32::from).collect();
-    builder.add_reader(between + 2, &items);
-}
-
-/// Layers of two, each with its own item; the last transaction of all reads from both of the last layer, as
-/// often as there is room.
-fn layers(builder: &mut Builder) {
-    let count = builder.room() as u32 / 10;
-    builder.add_link(1, &[], 1);
-    builder.add_link(2, &[], 2);
-    for layer in 1..count {
-        let [low, high] = [2 * layer - 1, 2 * layer];
-        for item in [low + 2, high + 2] {
-            builder.add_link(item as u16, &[high, low], item);
-        }
-    }
-    let last = 2 * count;
-    builder.add_reader(last as u16 + 1, &[last, last - 1]);
-}
-
-/// Three chains on an item each, of half of the records.
-fn strands(builder: &mut Builder) {
-    let last = builder.room() as u16 / 18 * 3;
-    for transaction in 1..=last {
-        let item = u32::from(transaction - 1) % 3;
-        builder.add_link(transaction, &[], item);
-    }
-    builder.add_all(last + 1, &[(READ, 0)]);
-    builder.add_reader(last + 1, &[1, 2]);
 }

@@ -24,18 +24,6 @@ pub fn undo(
     })
 }
 
-pub fn lineage(
-    journal: &[u8],
-    table: &[i32],
-    bad: &[u16],
-    transaction: u16,
-    line: &mut [u32],
-) -> Result<u32, Refusal> {
-    let (bad, transaction) = (Transaction::list(bad), Transaction(transaction));
-    let length = journal::lineage(journal, table, bad, transaction, line).map_err(refusal)?;
-    Ok(length as u32)
-}
-
 pub fn append(
     journal: &mut [u8],
     table: &mut [i32],

@@ -1,5 +1,5 @@
-//! Check, undo, the line of descent and append written by hand: a fixed number of passes over the
-//! records, with the state so far in fixed arrays.
+//! Check, undo and append written by hand: a fixed number of passes over the records, with the
+//! state so far in fixed arrays.
 
 #![forbid(unsafe_code)]
 
@@ -177,24 +177,6 @@ impl State {
         self.begun - self.counts[2] - self.counts[3]
     }
 
-    /// Refusal 11: an active transaction.
-    fn terminated(&self) -> Result<(), Refusal> {
-        if self.active() == 0 {
-            return Ok(());
-        }
-        let is_active = |&t: &usize| self.due[t] != UNSEEN && self.ends[t] == OPEN;
-        refuse(ACTIVE_AT_END, (1..NUMBERS).find(is_active).unwrap())
-    }
-
-    /// Refusal 12: a listed number is not a committed transaction.
-    fn committed(&self, bad: &[u16]) -> Result<(), Refusal> {
-        let unknown = |&t: &u16| self.ends.get(t as usize) != Some(&COMMIT);
-        match bad.iter().position(unknown) {
-            Some(position) => refuse(UNKNOWN, position),
-            None => Ok(()),
-        }
-    }
-
     /// The current value of a written item (01: standing amount).
     fn value(&self, item: &Item) -> i32 {
         if self.end(item.writer) == ABORT {
@@ -364,11 +346,17 @@ pub fn undo(
 ) -> Result<Undone, Refusal> {
     let mut state = State::new();
     let (records, _) = state.validate(journal, table)?;
-    state.terminated()?;
+    if state.active() != 0 {
+        let is_active = |&t: &usize| state.due[t] != UNSEEN && state.ends[t] == OPEN;
+        return refuse(ACTIVE_AT_END, (1..NUMBERS).find(is_active).unwrap());
+    }
     let Ok(status) = <&mut [u8; NUMBERS]>::try_from(status) else {
         return refuse(STATUS_LENGTH, 0);
     };
-    state.committed(bad)?;
+    let unknown = |&t: &u16| state.ends.get(t as usize) != Some(&COMMIT);
+    if let Some(position) = bad.iter().position(unknown) {
+        return refuse(UNKNOWN, position);
+    }
     let fates = fates(records, &state.ends, bad);
     let (ranks, kept) = ranks(records, &fates);
     let bytes = SIZE * (kept + 1);
@@ -388,8 +376,8 @@ pub fn undo(
     })
 }
 
-/// The status of each transaction number. A read is fed by the last write of its item that changed
-/// the amount and whose transaction commits: other writers' open writes are refused before.
+/// The status of each transaction number. A read is fed by the last write of its item whose
+/// transaction commits: other writers' open writes are refused before.
 fn fates(records: &[u8], ends: &[u8; NUMBERS], bad: &[u16]) -> [u8; NUMBERS] {
     let mut undone = [false; NUMBERS];
     for &transaction in bad {
@@ -401,9 +389,7 @@ fn fates(records: &[u8], ends: &[u8; NUMBERS], bad: &[u16]) -> [u8; NUMBERS] {
         let item = u32_at(bytes, 8) as usize;
         match bytes[0] {
             READ => undone[transaction as usize] |= undone[feeders[item] as usize],
-            WRITE if ends[transaction as usize] == COMMIT && changes(bytes) => {
-                feeders[item] = transaction
-            }
+            WRITE if ends[transaction as usize] == COMMIT => feeders[item] = transaction,
             _ => {}
         }
     }
@@ -414,11 +400,6 @@ fn fates(records: &[u8], ends: &[u8; NUMBERS], bad: &[u16]) -> [u8; NUMBERS] {
         }
     }
     fates
-}
-
-/// The write's after is not its before.
-fn changes(bytes: &[u8; SIZE]) -> bool {
-    u32_at(bytes, 12) != u32_at(bytes, 16)
 }
 
 /// How many of the first i records survive, for each i, and how many of all.
@@ -461,90 +442,6 @@ fn repair(
             place[4..8].copy_from_slice(&next.to_le_bytes());
         }
     }
-}
-
-/// The shortest line of descent from a listed transaction to this one.
-pub fn lineage(
-    journal: &[u8],
-    table: &[i32],
-    bad: &[u16],
-    transaction: u16,
-    line: &mut [u32],
-) -> Result<u32, Refusal> {
-    let mut state = State::new();
-    let (records, _) = state.validate(journal, table)?;
-    state.terminated()?;
-    state.committed(bad)?;
-    if transaction as usize >= NUMBERS {
-        return refuse(NOT_UNDONE, 0);
-    }
-    let ways = ways(records, &state.ends, transaction);
-    let way = |t: u16| ways[t as usize];
-    let leading = bad.iter().copied().filter(|&t| way(t).length != 0);
-    let Some(listed) = leading.min_by_key(|&t| (way(t).length, t)) else {
-        return refuse(NOT_UNDONE, 0);
-    };
-    let length = way(listed).length;
-    let Some(line) = line.get_mut(..length as usize) else {
-        return refuse(OUTPUT_LENGTH, 0);
-    };
-    let mut next = listed;
-    for number in line {
-        *number = next.into();
-        next = way(next).next;
-    }
-    Ok(length.into())
-}
-
-/// The way from a transaction to the one asked for: how many there are on the shortest line, both counted,
-/// 0 for no line; and the next one on the first of these.
-#[derive(Clone, Copy, Default)]
-struct Way {
-    length: u16,
-    next: u16,
-}
-
-/// The way from each transaction number. Steps are found in the order of the reads, and taken from the last
-/// one back: each step to a transaction is read before its commit, and each step from it afterwards, so its
-/// own way is known when a step to it is taken.
-fn ways(records: &[u8], ends: &[u8; NUMBERS], transaction: u16) -> [Way; NUMBERS] {
-    let mut steps = [(0, 0); RECORDS];
-    let count = steps_of(records, ends, &mut steps);
-    let mut ways = [Way::default(); NUMBERS];
-    ways[transaction as usize].length = 1;
-    for &(ahead, behind) in steps[..count].iter().rev() {
-        let left = ways[behind as usize].length;
-        let way = &mut ways[ahead as usize];
-        let shorter = way.length == 0 || (left + 1, behind) < (way.length, way.next);
-        if left != 0 && shorter {
-            *way = Way {
-                length: left + 1,
-                next: behind,
-            };
-        }
-    }
-    ways
-}
-
-/// Each step from a transaction to a committed one that reads from it, and how many there are. What feeds
-/// is as in `fates`.
-fn steps_of(records: &[u8], ends: &[u8; NUMBERS], steps: &mut [(u16, u16); RECORDS]) -> usize {
-    let mut feeders = [0u16; ITEMS];
-    let mut count = 0;
-    for bytes in split(records) {
-        let transaction = u16_at(bytes, 2);
-        let item = u32_at(bytes, 8) as usize;
-        let commits = ends[transaction as usize] == COMMIT;
-        match bytes[0] {
-            READ if commits && feeders[item] != 0 && feeders[item] != transaction => {
-                steps[count] = (feeders[item], transaction);
-                count += 1;
-            }
-            WRITE if commits && changes(bytes) => feeders[item] = transaction,
-            _ => {}
-        }
-    }
-    count
 }
 
 /// Adds one record.

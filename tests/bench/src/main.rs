@@ -167,13 +167,12 @@ fn total(file: &Path) -> f64 {
 /// A unit and its figures.
 type Part<'a> = (&'static str, &'a Figures);
 
-/// The bars, the growth, then the tables of each shape.
+/// The bar, the growth, then the tables of each shape.
 fn print(times: Option<&Figures>, instructions: Option<&Figures>) {
     let mut parts: Vec<Part> = Vec::new();
     parts.extend(times.map(|figures| ("ns", figures)));
     parts.extend(instructions.map(|figures| ("instr.", figures)));
     print_highest(&parts);
-    print_lineage(&parts);
     print_growth(&parts);
     for s in 0..SHAPES.len() {
         print_shape(&parts, s);
@@ -193,31 +192,6 @@ fn print_highest(parts: &[Part]) {
         }
         println!();
     }
-}
-
-/// The line of descent over undo with the same list, at the largest size.
-fn print_lineage(parts: &[Part]) {
-    let largest = SIZES.len() - 1;
-    println!(
-        "\n### Line of descent over undo with the same list, at {} records\n",
-        SIZES[largest]
-    );
-    print_head("day", parts, &["proved,", "linear,"]);
-    for (s, shape) in SHAPES.into_iter().enumerate() {
-        print!("| {} |", shape.name());
-        for (_, figures) in parts {
-            let of = |call: Call| figures[s][largest][place_of(call)];
-            for (line, undo) in of(Call::Lineage).iter().zip(of(Call::UndoBad)) {
-                print!(" {:.2} |", line / undo);
-            }
-        }
-        println!();
-    }
-}
-
-/// The place of a call among the figures.
-fn place_of(call: Call) -> usize {
-    CALLS.iter().position(|&of| of == call).unwrap()
 }
 
 /// The cost of a record at the largest size over that at the smallest.

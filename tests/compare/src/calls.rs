@@ -113,30 +113,3 @@ pub fn undo(
         )
     }
 }
-
-/// Writes the line of descent of one transaction (02, request 4); answers its length.
-pub fn lineage(
-    journal: &[u8],
-    table: &[i32],
-    bad: &[u16],
-    transaction: u16,
-    line: &mut [u32],
-    answer: &mut u64,
-) -> u32 {
-    // SAFETY: journal, table and list are borrowed through the call and only read, `line` and `answer` are
-    // borrowed alone; each length is its slice's.
-    unsafe {
-        raw::journal_lineage(
-            journal.as_ptr(),
-            journal.len(),
-            table.as_ptr(),
-            table.len(),
-            bad.as_ptr(),
-            bad.len(),
-            transaction,
-            line.as_mut_ptr(),
-            line.len(),
-            answer,
-        )
-    }
-}

@@ -134,34 +134,6 @@ impl Implementation for Proved {
         })
     }
 
-    fn lineage(
-        &self,
-        journal: &[u8],
-        table: &[i32],
-        bad: &[u16],
-        transaction: u16,
-        line: &mut [u32],
-    ) -> Result<u32, Refusal> {
-        let mut lent = Guarded::new(journal);
-        let mut amounts = Guarded::new(table);
-        let mut listed = Guarded::new(bad);
-        let mut list = Guarded::new(line);
-        let mut answer = Number::unwritten();
-        let number = calls::lineage(
-            lent.lent(),
-            amounts.lent(),
-            listed.lent(),
-            transaction,
-            list.lent(),
-            answer.lent(),
-        );
-        assert_eq!(lent.back(), journal);
-        assert_eq!(amounts.back(), table);
-        assert_eq!(listed.back(), bad);
-        list.hand_back(line);
-        answered(number, answer.back(), count)
-    }
-
     fn count_records(&self, journal: &[u8], counts: &mut [u32; 4]) -> Result<(), Refusal> {
         let mut lent = Guarded::new(journal);
         let mut by_kind = Guarded::new(counts);

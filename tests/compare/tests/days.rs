@@ -56,9 +56,6 @@ fn where_they_differ(found: &Answers, expected: &Answers) -> String {
             found.undo.answer, expected.undo.answer
         );
     }
-    if found.lineage != expected.lineage {
-        text += &format!("lineage {:?} for {:?}; ", found.lineage, expected.lineage);
-    }
     if found.count != expected.count {
         text += &format!("count {:?} for {:?}; ", found.count, expected.count);
     }

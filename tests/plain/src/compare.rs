@@ -33,15 +33,6 @@ pub trait Implementation {
         out: &mut [u8],
     ) -> Result<Undone, Refusal>;
 
-    fn lineage(
-        &self,
-        journal: &[u8],
-        table: &[i32],
-        bad: &[u16],
-        transaction: u16,
-        line: &mut [u32],
-    ) -> Result<u32, Refusal>;
-
     fn count_records(&self, journal: &[u8], counts: &mut [u32; 4]) -> Result<(), Refusal>;
 
     fn report(&self, journal: &[u8], table: &[u8], bad: &[u8]) -> Vec<u8>;
@@ -87,17 +78,6 @@ impl Implementation for Plain {
         crate::undo(journal, table, bad, status, out)
     }
 
-    fn lineage(
-        &self,
-        journal: &[u8],
-        table: &[i32],
-        bad: &[u16],
-        transaction: u16,
-        line: &mut [u32],
-    ) -> Result<u32, Refusal> {
-        crate::lineage(journal, table, bad, transaction, line)
-    }
-
     fn count_records(&self, journal: &[u8], counts: &mut [u32; 4]) -> Result<(), Refusal> {
         crate::count_records(journal, counts)
     }
@@ -139,13 +119,6 @@ pub struct UndoAnswer {
     pub out: Vec<u8>,
 }
 
-/// The line of descent's answer and loan.
-#[derive(Debug, Clone, PartialEq, Eq)]
-pub struct LineageAnswer {
-    pub answer: Result<u32, Refusal>,
-    pub line: Vec<u32>,
-}
-
 /// The answer of the count of a stored journal, and its loan.
 #[derive(Debug, Clone, Copy, PartialEq, Eq)]
 pub struct CountAnswer {
@@ -161,7 +134,6 @@ pub struct Answers {
     pub check: Result<u32, Refusal>,
     pub chain: ChainAnswer,
     pub undo: UndoAnswer,
-    pub lineage: LineageAnswer,
     pub count: CountAnswer,
     pub report: Vec<u8>,
 }
@@ -174,7 +146,6 @@ pub fn answers(calls: &impl Implementation, day: &Day) -> Answers {
         check: calls.check(&day.journal, &day.table),
         chain: chain(calls, day),
         undo: undo(calls, day),
-        lineage: lineage(calls, day),
         count: count(calls, &day.journal),
         report: calls.report(&day.journal, &day.table_file, &day.bad_file),
     }
@@ -226,15 +197,6 @@ fn undo(calls: &impl Implementation, day: &Day) -> UndoAnswer {
         table,
         status,
         out,
-    }
-}
-
-fn lineage(calls: &impl Implementation, day: &Day) -> LineageAnswer {
-    let mut line = day.line.clone();
-    let transaction = day.lineage_of;
-    LineageAnswer {
-        answer: calls.lineage(&day.journal, &day.table, &day.bad, transaction, &mut line),
-        line,
     }
 }
 
@@ -354,25 +316,4 @@ pub fn repair(calls: &impl Implementation, journal: &[u8], table: &[i32], bad: &
         surviving: with_state(1),
         repaired: out,
     }
-}
-
-/// What is lent for a line: no transaction's number.
-const UNWRITTEN: u32 = 0xAAAA_AAAA;
-
-/// The line of descent that a call with a list of this length gives. Nothing behind it was written, and
-/// nothing at all by a refused call.
-pub fn line(
-    calls: &impl Implementation,
-    journal: &[u8],
-    table: &[i32],
-    bad: &[u16],
-    transaction: u16,
-    length: usize,
-) -> Result<Vec<u32>, Refusal> {
-    let mut line = vec![UNWRITTEN; length];
-    let answer = calls.lineage(journal, table, bad, transaction, &mut line);
-    let written = answer.map_or(0, |length| length as usize);
-    assert!(line[written..].iter().all(|&number| number == UNWRITTEN));
-    line.truncate(written);
-    answer.map(|_| line)
 }

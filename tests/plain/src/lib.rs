@@ -13,7 +13,6 @@ mod chain;
 pub mod compare;
 pub mod days;
 pub mod format;
-mod lineage;
 pub mod projection;
 pub mod properties;
 pub mod refusal;
@@ -24,7 +23,6 @@ mod validate;
 
 pub use append::{append, count_records, start};
 pub use chain::chain;
-pub use lineage::{lineage, lines};
 pub use projection::removal;
 pub use refusal::Refusal;
 pub use report::report;

@@ -1,5 +1,4 @@
-//! The refusals (document 01, "Reasons for handing it back", and those that document 02 adds): a number
-//! and a place.
+//! The refusals (document 01, "Reasons for handing it back"): a number and a place.
 
 /// A refused call's answer.
 #[derive(Debug, Clone, Copy, PartialEq, Eq, PartialOrd, Ord, Hash)]
@@ -38,8 +37,6 @@ pub const STATUS_LENGTH: u32 = 13;
 pub const OUTPUT_LENGTH: u32 = 14;
 /// 01: tally.
 pub const COUNTS: u32 = 15;
-/// 02, request 4: the transaction asked for is not taken back.
-pub const NOT_UNDONE: u32 = 16;
 
 /// The refusal with this number at this place.
 pub(crate) fn refuse<T>(number: u32, place: usize) -> Result<T, Refusal> {

@@ -54,14 +54,13 @@ impl Drop for Trying<'_> {
     }
 }
 
-/// The refusals of each call and of the report, by number.
-pub const REFUSALS: [(&str, &[u32]); 8] = [
+/// The refusals of each call and of the report, in the order of the table of document 01.
+pub const REFUSALS: [(&str, &[u32]); 7] = [
     ("start", &[1, 2]),
     ("append", &[1, 2, 3, 4, 5, 6, 7, 8, 9, 10, 14, 15]),
     ("check", &[1, 2, 3, 4, 5, 6, 7, 8, 9, 10]),
     ("chain", &[1, 2, 4, 5, 6, 7, 8, 9, 12, 14]),
     ("undo", &[1, 2, 3, 4, 5, 6, 7, 8, 9, 10, 11, 12, 13, 14]),
-    ("lineage", &[1, 2, 3, 4, 5, 6, 7, 8, 9, 10, 11, 12, 14, 16]),
     ("count", &[1, 2]),
     ("report", &[1, 2, 3, 4, 5, 6, 7, 8, 9, 10, 11, 12]),
 ];
@@ -83,7 +82,6 @@ impl Met {
         self.note("check", &answers.check);
         self.note("chain", &answers.chain.answer);
         self.note("undo", &answers.undo.answer);
-        self.note("lineage", &answers.lineage.answer);
         self.note("count", &answers.count.answer);
     }
 
@@ -132,9 +130,7 @@ impl Met {
 
     /// The lines of the calls.
     pub fn lines_of_calls(&self) -> String {
-        let calls = [
-            "start", "append", "check", "chain", "undo", "lineage", "count",
-        ];
+        let calls = ["start", "append", "check", "chain", "undo", "count"];
         calls.map(|call| self.line(call)).concat()
     }
 }

@@ -4,7 +4,7 @@ use crate::append::put;
 use crate::format::*;
 use crate::projection::{committed_before, reads_from};
 use crate::refusal::*;
-use crate::validate::validate_terminated;
+use crate::validate::{active_at, validate};
 
 /// Status byte of a number without a committed transaction.
 pub const NOT_COMMITTED: u8 = 0;
@@ -32,11 +32,16 @@ pub fn undo(
     status: &mut [u8],
     out: &mut [u8],
 ) -> Result<Undone, Refusal> {
-    let records = validate_terminated(journal, table)?;
+    let records = validate(journal, table)?;
+    if let Some(lowest) = active_at(&records, records.len()).iter().position(|&a| a) {
+        return refuse(ACTIVE_AT_END, lowest);
+    }
     if status.len() != STATUS_BYTES {
         return refuse(STATUS_LENGTH, 0);
     }
-    check_list(&records, bad)?;
+    if let Some(position) = bad.iter().position(|&t| !is_committed(&records, t)) {
+        return refuse(UNKNOWN, position);
+    }
     let new_status = status_of(&records, &undo_set(&records, bad));
     let repaired = repaired_journal(&records, &new_status);
     if out.len() < RECORD_BYTES * repaired.len() {
@@ -53,14 +58,6 @@ pub fn undo(
         aborted: records[1..].iter().filter(|r| r.is_abort()).count() as u32,
         bytes: (RECORD_BYTES * repaired.len()) as u64,
     })
-}
-
-/// 12: a listed number is not a committed transaction.
-pub(crate) fn check_list(records: &[Record], bad: &[u16]) -> Result<(), Refusal> {
-    match bad.iter().position(|&t| !is_committed(records, t)) {
-        Some(position) => refuse(UNKNOWN, position),
-        None => Ok(()),
-    }
 }
 
 /// The journal has a commit of the transaction.
@@ -89,7 +86,7 @@ fn undo_set(records: &[Record], bad: &[u16]) -> Vec<bool> {
 }
 
 /// Each committed reader with the transaction whose write feeds one of its reads.
-pub(crate) fn dependencies(records: &[Record]) -> Vec<(u16, u16)> {
+fn dependencies(records: &[Record]) -> Vec<(u16, u16)> {
     let mut pairs = Vec::new();
     for i in 1..records.len() {
         if records[i].is_read() && is_committed(records, records[i].transaction) {

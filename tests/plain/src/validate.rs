@@ -28,16 +28,7 @@ pub(crate) fn validate(journal: &[u8], table: &[i32]) -> Result<Vec<Record>, Ref
     Ok(records)
 }
 
-/// The same, and then 11: every transaction has an end.
-pub(crate) fn validate_terminated(journal: &[u8], table: &[i32]) -> Result<Vec<Record>, Refusal> {
-    let records = validate(journal, table)?;
-    match active_at(&records, records.len()).iter().position(|&a| a) {
-        Some(lowest) => refuse(ACTIVE_AT_END, lowest),
-        None => Ok(records),
-    }
-}
-
-/// Refusals 1, 2, 1 and 4 to 9, without 3 and 10, for the call that has no table.
+/// The same without 3 and 10, for the call that has no table.
 pub(crate) fn validate_without_table(journal: &[u8]) -> Result<Vec<Record>, Refusal> {
     let records = decode(journal)?;
     check_records(&records)?;

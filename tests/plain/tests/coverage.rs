@@ -3,7 +3,6 @@
 
 use plain::compare::{answers, Answers, Plain};
 use plain::days::{day, Day};
-use plain::properties::history::History;
 use plain::properties::loans::refused_calls_write_nothing;
 use plain::run::{on_threads, Seeds, DAYS, REFUSALS};
 use plain::Refusal;
@@ -87,47 +86,6 @@ fn note_counted(met: &mut Met, day: &Day, answers: &Answers) {
     }
 }
 
-/// On days as built: both sides of a list that is just as long as the line; what the numbers stand for that
-/// give 16, with a list too short for any line and with another; and 12 where 16 would hold too.
-fn note_lineage(met: &mut Met, day: &Day, answers: &Answers) {
-    if !day.known.intact {
-        return;
-    }
-    let (lent, needed) = (day.line.len(), day.known.line);
-    let case = match answers.lineage.answer.map_err(|refusal| refusal.number) {
-        Ok(100..) => "accepted, 100 and more",
-        Ok(_) if lent == needed => "accepted, just as long",
-        Ok(_) => "accepted, longer",
-        Err(12) if needed == 0 => "12 of one not taken back",
-        Err(12) => "12 of one taken back",
-        Err(14) if lent + 1 == needed => "14 one short",
-        Err(14) => "14 shorter",
-        Err(16) if lent == 0 => "16 with no list",
-        Err(16) => "16 with a list",
-        Err(_) => return,
-    };
-    note(met, "lineage", case);
-    if case.starts_with("16") {
-        note(met, "lineage", format!("16 of {}", what_is_asked(day)));
-    }
-}
-
-/// What a number is in a journal that passes and where it is not taken back.
-fn what_is_asked(day: &Day) -> &'static str {
-    let records = History::of(&day.journal).records;
-    let end = records[1..]
-        .iter()
-        .find(|r| r.transaction == day.lineage_of && r.is_termination());
-    match (day.lineage_of, end) {
-        (0, _) => "0",
-        (1_025, _) => "1,025",
-        (1_026.., _) => "one above",
-        (_, Some(end)) if end.is_commit() => "one kept",
-        (_, Some(_)) => "one rolled back",
-        (_, None) => "one without records",
-    }
-}
-
 fn note_report(met: &mut Met, text: &[u8]) {
     let text = std::str::from_utf8(text).unwrap();
     match text.strip_prefix("REFUSED ") {
@@ -146,22 +104,19 @@ fn met_in(seeds: Seeds) -> Met {
         note_answer(&mut met, "check", &answers.check);
         note_answer(&mut met, "chain", &answers.chain.answer);
         note_answer(&mut met, "undo", &answers.undo.answer);
-        note_answer(&mut met, "lineage", &answers.lineage.answer);
         note_answer(&mut met, "count", &answers.count.answer);
         note_new_record(&mut met, &day, &answers);
         note_truncated(&mut met, &day, &answers);
         note_counted(&mut met, &day, &answers);
-        note_lineage(&mut met, &day, &answers);
         note_report(&mut met, &answers.report);
         if count(&day.journal) == 3_200 {
             note_answer(&mut met, "undo of 3,200", &answers.undo.answer);
-            note_answer(&mut met, "lineage of 3,200", &answers.lineage.answer);
         }
     }
     met
 }
 
-const CASES: [(&str, &str); 50] = [
+const CASES: [(&str, &str); 31] = [
     ("append", "4 old"),
     ("append", "5 old"),
     ("append", "6 old"),
@@ -193,25 +148,6 @@ const CASES: [(&str, &str); 50] = [
     ("count", "accepted, another kind"),
     ("undo of 3,200", "accepted"),
     ("undo of 3,200", "11"),
-    ("lineage", "accepted, just as long"),
-    ("lineage", "accepted, longer"),
-    ("lineage", "accepted, 100 and more"),
-    ("lineage", "16 of 0"),
-    ("lineage", "16 of 1,025"),
-    ("lineage", "16 of one above"),
-    ("lineage", "16 of one kept"),
-    ("lineage", "16 of one rolled back"),
-    ("lineage", "16 of one without records"),
-    ("lineage", "16 with no list"),
-    ("lineage", "16 with a list"),
-    ("lineage", "14 one short"),
-    ("lineage", "14 shorter"),
-    ("lineage", "12 of one not taken back"),
-    ("lineage", "12 of one taken back"),
-    ("lineage of 3,200", "accepted"),
-    ("lineage of 3,200", "11"),
-    ("lineage of 3,200", "12"),
-    ("lineage of 3,200", "16"),
 ];
 
 #[test]
@@ -238,7 +174,7 @@ fn each_refusal_of_each_call_is_met() {
     assert!(missing.is_empty(), "never met: {missing:?}");
     // And nothing else: a call gives no number that is not its own.
     for (call, case) in met.keys().filter(|(_, case)| case.parse::<u32>().is_ok()) {
-        if !call.ends_with("of 3,200") {
+        if *call != "undo of 3,200" {
             assert!(expected.contains(&(call, case.clone())), "{call} {case}");
         }
     }

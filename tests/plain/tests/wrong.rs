@@ -1,18 +1,14 @@
 //! Each property can fail: calls that are wrong in one point, each with a property that sees it.
 
-use plain::compare::{answers, Implementation};
-use plain::days::{day, Append};
+use plain::compare::Implementation;
+use plain::days::Append;
 use plain::format::{Record, RECORD_BYTES};
 use plain::properties::counting::*;
 use plain::properties::cutting::*;
-use plain::properties::history::{is_rewrite, History, Rule, CHANGED};
-use plain::properties::lineage::*;
-use plain::properties::loans::{
-    bytes_behind_the_last_record_do_not_matter, refused_calls_write_nothing,
-};
+use plain::properties::history::History;
+use plain::properties::loans::bytes_behind_the_last_record_do_not_matter;
 use plain::properties::posting::*;
 use plain::properties::reporting::sum_of_day;
-use plain::properties::rewriting::*;
 use plain::properties::undoing::*;
 use plain::{Refusal, Undone};
 use std::panic::{catch_unwind, AssertUnwindSafe};
@@ -99,47 +95,6 @@ impl Appending<'_> {
     }
 }
 
-/// What the line of descent is asked with.
-struct Descending<'a> {
-    journal: &'a [u8],
-    table: &'a [i32],
-    bad: &'a [u16],
-    transaction: u16,
-    line: &'a mut [u32],
-}
-
-impl Descending<'_> {
-    fn right(self) -> Result<u32, Refusal> {
-        let transaction = self.transaction;
-        plain::lineage(self.journal, self.table, self.bad, transaction, self.line)
-    }
-
-    fn again(&mut self) -> Descending<'_> {
-        Descending {
-            journal: self.journal,
-            table: self.table,
-            bad: self.bad,
-            transaction: self.transaction,
-            line: self.line,
-        }
-    }
-
-    /// Gives the line of this choice, where the list has room for it.
-    fn choosing(mut self, choice: Choice) -> Result<u32, Refusal> {
-        let lent = self.line.to_vec();
-        let right = self.again().right()?;
-        let other = choice(&History::of(self.journal), self.bad, self.transaction);
-        if self.line.len() < other.len() {
-            return Ok(right);
-        }
-        self.line.copy_from_slice(&lent);
-        for (place, number) in self.line.iter_mut().zip(&other) {
-            *place = (*number).into();
-        }
-        Ok(other.len() as u32)
-    }
-}
-
 /// The report on journal, table and list file.
 type Report = fn(&[u8], &[u8], &[u8]) -> Vec<u8>;
 
@@ -149,7 +104,6 @@ struct Wrong {
     chain: fn(&[u8], u16, &mut [u32]) -> Result<u32, Refusal>,
     append: fn(Appending) -> Result<(), Refusal>,
     undo: fn(Undoing) -> Result<Undone, Refusal>,
-    lineage: fn(Descending) -> Result<u32, Refusal>,
     count: fn(&[u8], &mut [u32; 4]) -> Result<(), Refusal>,
     report: Report,
 }
@@ -207,23 +161,6 @@ impl Implementation for Wrong {
         })
     }
 
-    fn lineage(
-        &self,
-        journal: &[u8],
-        table: &[i32],
-        bad: &[u16],
-        transaction: u16,
-        line: &mut [u32],
-    ) -> Result<u32, Refusal> {
-        (self.lineage)(Descending {
-            journal,
-            table,
-            bad,
-            transaction,
-            line,
-        })
-    }
-
     fn count_records(&self, journal: &[u8], counts: &mut [u32; 4]) -> Result<(), Refusal> {
         (self.count)(journal, counts)
     }
@@ -239,7 +176,6 @@ fn right() -> Wrong {
         chain: plain::chain,
         append: |mut given| given.right(),
         undo: |given| given.right(),
-        lineage: |given| given.right(),
         count: plain::count_records,
         report: plain::report,
     }
@@ -248,28 +184,11 @@ fn right() -> Wrong {
 /// The property fails on one of the first seeds.
 fn is_seen(holds: fn(&Wrong, u64) -> u64, wrong: Wrong) {
     let fails = |seed| catch_unwind(AssertUnwindSafe(|| holds(&wrong, seed))).is_err();
-    assert!((0..1_000).any(fails));
+    assert!((0..300).any(fails));
 }
 
 fn undo_is_seen(holds: fn(&Wrong, u64) -> u64, undo: fn(Undoing) -> Result<Undone, Refusal>) {
     is_seen(holds, Wrong { undo, ..right() });
-}
-
-/// The two properties of which line it is both see it.
-fn line_is_seen(lineage: fn(Descending) -> Result<u32, Refusal>) {
-    let wrong = || Wrong { lineage, ..right() };
-    is_seen(lines_are_the_first_of_the_shortest, wrong());
-    is_seen(lines_of_days_of_any_size, wrong());
-}
-
-/// An answer or a loan differs from the right one's on one of the first days.
-fn answer_differs(lineage: fn(Descending) -> Result<u32, Refusal>) {
-    let wrong = Wrong { lineage, ..right() };
-    let differs = |seed| {
-        let day = day(seed);
-        answers(&wrong, &day).lineage != answers(&right(), &day).lineage
-    };
-    assert!((0..1_000).any(differs));
 }
 
 fn append_is_seen(holds: fn(&Wrong, u64) -> u64, append: fn(Appending) -> Result<(), Refusal>) {
@@ -286,15 +205,6 @@ fn count_is_seen(
 fn sum_is_seen(report: Report) {
     let holds = |wrong: &Wrong, seed| u64::from(sum_of_day(wrong, seed).is_some());
     is_seen(holds, Wrong { report, ..right() });
-}
-
-/// What feeds by another rule: the property of feeding fails on one of the first seeds.
-fn feeding_is_seen(rule: Rule) {
-    let feeding =
-        |journal: &[u8], removed: &[u16]| History::of(journal).without(removed).sources(rule);
-    let holds = |seed| reads_are_fed_by_changes(feeding, seed);
-    let fails = |seed| catch_unwind(AssertUnwindSafe(|| holds(seed))).is_err();
-    assert!((0..1_000).any(fails));
 }
 
 /// The report with another sum, if the day is accepted.
@@ -334,7 +244,7 @@ fn taking_only_the_list() {
 fn taking_direct_readers_only() {
     let direct = |given: Undoing| {
         given.taking(|history, bad| {
-            let pairs = history.dependencies(CHANGED).into_iter();
+            let pairs = history.dependencies().into_iter();
             let readers = pairs.filter(|(_, writer)| bad.contains(writer));
             let mut names: Vec<u16> = readers.map(|(reader, _)| reader).collect();
             names.extend(bad);
@@ -670,351 +580,4 @@ fn summing_in_32_bits() {
         })
     };
     sum_is_seen(narrow);
-}
-
-#[test]
-fn feeding_by_every_write() {
-    let old = |given: Undoing| given.taking(|history, bad| history.undo_set(bad, EVERY_WRITE));
-    undo_is_seen(undone_set_is_the_least, old);
-    undo_is_seen(which_lists_undo_accepts, old);
-    undo_is_seen(rewrites_draw_nobody_in, old);
-    feeding_is_seen(EVERY_WRITE);
-}
-
-#[test]
-fn feeding_by_rises_only() {
-    let rises = |given: Undoing| given.taking(|history, bad| history.undo_set(bad, RISES));
-    undo_is_seen(undone_set_is_the_least, rises);
-    undo_is_seen(what_is_left_is_the_models, rises);
-    feeding_is_seen(RISES);
-}
-
-#[test]
-fn feeding_by_falls_only() {
-    let falls = |given: Undoing| given.taking(|history, bad| history.undo_set(bad, FALLS));
-    undo_is_seen(undone_set_is_the_least, falls);
-    undo_is_seen(what_is_left_is_the_models, falls);
-    feeding_is_seen(FALLS);
-}
-
-#[test]
-fn holding_the_after_against_the_opening_amount() {
-    let opening =
-        |given: Undoing| given.taking(|history, bad| history.undo_set(bad, NOT_THE_OPENING));
-    undo_is_seen(undone_set_is_the_least, opening);
-    undo_is_seen(rewrites_draw_nobody_in, opening);
-    feeding_is_seen(NOT_THE_OPENING);
-}
-
-#[test]
-fn holding_the_after_against_the_last_amount_written() {
-    let last =
-        |given: Undoing| given.taking(|history, bad| history.undo_set(bad, NOT_THE_LAST_WRITTEN));
-    undo_is_seen(undone_set_is_the_least, last);
-    feeding_is_seen(NOT_THE_LAST_WRITTEN);
-}
-
-/// By this 5 to 7 to 5 in one transaction does not feed.
-#[test]
-fn feeding_by_net_changes_only() {
-    let net = |given: Undoing| given.taking(|history, bad| history.undo_set(bad, NET_CHANGES));
-    undo_is_seen(undone_set_is_the_least, net);
-    feeding_is_seen(NET_CHANGES);
-}
-
-#[test]
-fn feeding_by_nothing_behind_a_rewrite() {
-    let hidden = |given: Undoing| {
-        given.taking(|history, bad| history.undo_set(bad, NOTHING_BEHIND_A_REWRITE))
-    };
-    undo_is_seen(undone_set_is_the_least, hidden);
-    undo_is_seen(rewrites_draw_nobody_in, hidden);
-    feeding_is_seen(NOTHING_BEHIND_A_REWRITE);
-}
-
-#[test]
-fn comparing_the_lower_halves() {
-    let halves = |given: Undoing| given.taking(|history, bad| history.undo_set(bad, LOWER_HALVES));
-    undo_is_seen(undone_set_is_the_least, halves);
-    feeding_is_seen(LOWER_HALVES);
-}
-
-/// A transaction has read what it rewrites, so undo gives the same; the feeding write differs.
-#[test]
-fn feeding_by_own_rewrites() {
-    feeding_is_seen(OWN_REWRITES);
-}
-
-/// The last committed amount: the feeding write is another one of the same transaction.
-#[test]
-fn holding_the_after_against_the_amount_found() {
-    feeding_is_seen(NOT_THE_FOUND);
-}
-
-#[test]
-fn leaving_rewrites_out_of_the_copy() {
-    let without = |mut given: Undoing| {
-        let lent = given.out.to_vec();
-        let answer = given.again().right()?;
-        let copy = History::of(given.out).without_rewrites();
-        given.out.copy_from_slice(&lent);
-        given.out[..copy.len()].copy_from_slice(&copy);
-        Ok(Undone {
-            bytes: copy.len() as u64,
-            ..answer
-        })
-    };
-    undo_is_seen(what_is_left_is_the_models, without);
-    undo_is_seen(rewrites_draw_nobody_in, without);
-}
-
-#[test]
-fn keeping_a_listed_transaction_of_rewrites() {
-    let idle = |given: Undoing| {
-        let records = History::of(given.journal).records;
-        let changes = |t: &u16| {
-            let mut own = records[1..].iter().filter(|r| r.transaction == *t);
-            own.any(|r| r.is_write() && !is_rewrite(r))
-        };
-        let bad: Vec<u16> = given.bad.iter().copied().filter(changes).collect();
-        Undoing { bad: &bad, ..given }.right()
-    };
-    undo_is_seen(undone_set_is_the_least, idle);
-    undo_is_seen(which_lists_undo_accepts, idle);
-}
-
-/// Steps 5 to 2 to 9 and 1 to 3 to 9: back by the lowest is 5 2 9.
-#[test]
-fn walking_back_by_the_lowest_ahead() {
-    line_is_seen(|given| given.choosing(LOWEST_AHEAD));
-}
-
-#[test]
-fn walking_back_by_the_highest_ahead() {
-    line_is_seen(|given| given.choosing(HIGHEST_AHEAD));
-}
-
-#[test]
-fn walking_back_by_the_first_read() {
-    line_is_seen(|given| given.choosing(FIRST_AHEAD));
-}
-
-#[test]
-fn giving_the_first_line_found() {
-    line_is_seen(|given| given.choosing(FIRST_FOUND));
-}
-
-#[test]
-fn giving_a_line_by_the_order_of_the_list() {
-    line_is_seen(|given| given.choosing(BY_THE_LIST));
-}
-
-#[test]
-fn giving_a_longer_line() {
-    line_is_seen(|given| given.choosing(FIRST_DRAWN_IN));
-    line_is_seen(|given| given.choosing(FROM_THE_FIRST_LISTED));
-}
-
-#[test]
-fn stepping_from_an_own_write() {
-    line_is_seen(|given| given.choosing(OWN_STEPS));
-}
-
-#[test]
-fn stepping_from_a_rewrite() {
-    let every = |given: Descending| given.choosing(BY_EVERY_WRITE);
-    line_is_seen(every);
-    is_seen(
-        rewrites_give_no_step,
-        Wrong {
-            lineage: every,
-            ..right()
-        },
-    );
-}
-
-#[test]
-fn giving_the_line_turned_round() {
-    line_is_seen(|given| {
-        given.choosing(|history, bad, last| {
-            let mut line = THE_LINE(history, bad, last);
-            line.reverse();
-            line
-        })
-    });
-}
-
-#[test]
-fn leaving_out_the_listed_one() {
-    line_is_seen(|given| {
-        given.choosing(|history, bad, last| THE_LINE(history, bad, last).split_off(1))
-    });
-}
-
-#[test]
-fn leaving_out_the_one_asked_for() {
-    line_is_seen(|given| {
-        given.choosing(|history, bad, last| {
-            let mut line = THE_LINE(history, bad, last);
-            line.pop();
-            line
-        })
-    });
-}
-
-/// The listed one and the one asked for, as if every step were one.
-#[test]
-fn leaving_out_what_is_between() {
-    line_is_seen(|given| {
-        given.choosing(|history, bad, last| {
-            let mut line = THE_LINE(history, bad, last);
-            let between = line.len().saturating_sub(1).max(1);
-            line.drain(1..between);
-            line
-        })
-    });
-}
-
-#[test]
-fn writing_behind_the_line() {
-    line_is_seen(|mut given| {
-        let length = given.again().right()?;
-        given.line[length as usize..].fill(0);
-        Ok(length)
-    });
-}
-
-#[test]
-fn asking_for_a_place_more() {
-    line_is_seen(|given| {
-        let line = match given.line {
-            [front @ .., _] => front,
-            [] => &mut [],
-        };
-        Descending { line, ..given }.right()
-    });
-}
-
-/// As much of the line as the list holds.
-#[test]
-fn cutting_a_line_to_the_list() {
-    line_is_seen(|given| {
-        let mut long = [0; 1_024];
-        let Descending { line, .. } = given;
-        let length = Descending {
-            line: &mut long,
-            ..given
-        }
-        .right()?;
-        let cut = line.len().min(length as usize);
-        line[..cut].copy_from_slice(&long[..cut]);
-        Ok(cut as u32)
-    });
-}
-
-#[test]
-fn giving_an_empty_line_for_16() {
-    line_is_seen(|given| match given.right() {
-        Err(refusal) if refusal.number == 16 => Ok(0),
-        answer => answer,
-    });
-}
-
-/// A kept transaction's line as itself alone.
-#[test]
-fn giving_a_kept_transaction_alone() {
-    line_is_seen(|mut given| {
-        let answer = given.again().right();
-        let commits = History::of(given.journal).commits();
-        match (answer, given.line) {
-            (Err(refusal), [first, ..])
-                if refusal.number == 16 && commits.contains(&given.transaction) =>
-            {
-                *first = given.transaction.into();
-                Ok(1)
-            }
-            (answer, _) => answer,
-        }
-    });
-}
-
-/// 16 for all but the listed ones.
-#[test]
-fn giving_listed_transactions_only() {
-    line_is_seen(|given| {
-        let listed = given.bad.contains(&given.transaction);
-        let bad = if listed { given.bad } else { &[] };
-        Descending { bad, ..given }.right()
-    });
-}
-
-#[test]
-fn asking_for_a_list_before_16() {
-    line_is_seen(|mut given| match given.again().right() {
-        Err(refusal) if refusal.number == 16 && given.line.is_empty() => Err(Refusal {
-            number: 14,
-            place: 0,
-        }),
-        answer => answer,
-    });
-}
-
-#[test]
-fn a_place_for_16() {
-    line_is_seen(|given| {
-        let place = given.transaction.into();
-        given.right().map_err(|refusal| match refusal.number {
-            16 => Refusal { number: 16, place },
-            _ => refusal,
-        })
-    });
-}
-
-#[test]
-fn passing_over_unknown_names_of_a_line() {
-    let lenient = |mut given: Descending| match given.again().right() {
-        Err(refusal) if refusal.number == 12 => {
-            let commits = History::of(given.journal).commits();
-            let mut known = given.bad.to_vec();
-            known.retain(|name| commits.contains(name));
-            Descending {
-                bad: &known,
-                ..given
-            }
-            .right()
-        }
-        answer => answer,
-    };
-    answer_differs(lenient);
-}
-
-#[test]
-fn giving_16_before_12() {
-    let early = |mut given: Descending| match given.again().right() {
-        Err(refusal) if refusal.number == 12 && !given.bad.contains(&given.transaction) => {
-            Err(Refusal {
-                number: 16,
-                place: 0,
-            })
-        }
-        answer => answer,
-    };
-    answer_differs(early);
-}
-
-#[test]
-fn writing_a_line_that_is_refused() {
-    let lineage = |mut given: Descending| {
-        let answer = given.again().right();
-        if let (Err(_), Some(first)) = (answer, given.line.first_mut()) {
-            *first = !*first;
-        }
-        answer
-    };
-    line_is_seen(lineage);
-    let holds = |wrong: &Wrong, seed| {
-        let day = day(seed);
-        refused_calls_write_nothing(&day, &answers(wrong, &day))
-    };
-    is_seen(holds, Wrong { lineage, ..right() });
 }

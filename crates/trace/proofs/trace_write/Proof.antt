@@ -1,4 +1,4 @@
--- `trace::trace_write` meets its contract: a write that changed the amount feeds later reads if its transaction commits.
+-- `trace::trace_write` meets its contract: a write feeds later reads if its transaction commits.
 -- Assumes nothing.
 use borrow.Author.Rules.{rules}
 use Rattle.trace.proofs.TraceLaws.{write-is_source, write-idle}

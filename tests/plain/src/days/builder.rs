@@ -12,7 +12,7 @@ pub enum Progress {
     Aborted,
 }
 
-/// What an item was before its transaction's first write of it, a rewrite or not.
+/// What an item was before its transaction's first write of it.
 struct FirstWrite {
     item: u32,
     before: i32,
@@ -29,8 +29,7 @@ struct Transaction {
     records: u32,
 }
 
-/// The slots of one item. `writer` is the last one that changed the amount and has not rolled
-/// back, 0 for none.
+/// The slots of one item. `writer` is the last one that has not rolled back, 0 for none.
 #[derive(Clone, Default)]
 struct Item {
     initial: i32,
@@ -112,23 +111,6 @@ impl Builder {
         }
     }
 
-    /// What an item stands at.
-    pub fn value(&self, item: u32) -> i32 {
-        self.items[item as usize].value
-    }
-
-    /// What an item stood at when the day began.
-    pub fn initial(&self, item: u32) -> i32 {
-        self.items[item as usize].initial
-    }
-
-    /// What an item stood at before this active transaction wrote it.
-    pub fn found(&self, transaction: u16, item: u32) -> i32 {
-        let writes = &self.transactions[transaction as usize].writes;
-        let first = writes.iter().find(|write| write.item == item);
-        first.map_or(self.value(item), |write| write.before)
-    }
-
     pub fn table(&self) -> Vec<i32> {
         self.items.iter().map(|item| item.value).collect()
     }
@@ -181,10 +163,8 @@ impl Builder {
                 writer: slot.writer,
             });
         }
-        if after != before {
-            slot.writer = transaction;
-        }
         slot.value = after;
+        slot.writer = transaction;
         slot.active_writer = transaction;
     }
 
@@ -262,29 +242,6 @@ impl Builder {
         (0..=MAX_TRANSACTION)
             .filter(|&transaction| undone[transaction as usize])
             .collect()
-    }
-
-    /// How many transactions the shortest line of descent to each has, by number; 0 for those that the
-    /// list does not draw in. One pass in the order of the commits, too.
-    pub fn line_lengths(&self, bad: &[u16]) -> Vec<usize> {
-        let mut lengths = vec![0; STATUS_BYTES];
-        for &transaction in &self.commits {
-            let sources = &self.transactions[transaction as usize].sources;
-            let ahead = sources.iter().map(|&source| lengths[source as usize]);
-            let shortest = ahead.filter(|&length| length > 0).min();
-            lengths[transaction as usize] = if bad.contains(&transaction) {
-                1
-            } else {
-                shortest.map_or(0, |length| length + 1)
-            };
-        }
-        lengths
-    }
-
-    /// The length of one of these lines, 0 for a number outside the numbering.
-    pub fn line_length(&self, bad: &[u16], transaction: u16) -> usize {
-        let lengths = self.line_lengths(bad);
-        lengths.get(transaction as usize).copied().unwrap_or(0)
     }
 
     /// How many bytes the repaired journal (01: copy) has.

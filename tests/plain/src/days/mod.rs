@@ -8,7 +8,7 @@ mod random;
 
 use crate::format::*;
 use builder::Builder;
-use play::{any_number, dependence, layers, numbers, play, shuffle, taps, Shape};
+use play::{any_number, dependence, numbers, play, Shape};
 
 pub use random::Random;
 
@@ -25,7 +25,7 @@ pub struct Append {
 #[derive(Debug, Clone, PartialEq, Eq)]
 pub struct Day {
     pub seed: u64,
-    /// Lent to every call but start; also the program's journal file.
+    /// Lent to append, check, the chain walk and undo; also the program's journal file.
     pub journal: Vec<u8>,
     pub table: Vec<i32>,
     /// Undo's bad list, status vector (01: marks) and output buffer (01: paper).
@@ -38,9 +38,6 @@ pub struct Day {
     /// The chain walk's (01: slip) transaction and list.
     pub chain_of: u16,
     pub lsns: Vec<u32>,
-    /// The transaction whose line of descent is asked for, with undo's list, and the list for the line.
-    pub lineage_of: u16,
-    pub line: Vec<u32>,
     /// Start's buffer and item count.
     pub fresh: Vec<u8>,
     pub items: u32,
@@ -64,19 +61,15 @@ pub struct Known {
     pub undone: Vec<u16>,
     /// The bytes of the repaired journal (01: copy) that leaves out this set.
     pub repaired_bytes: usize,
-    /// How many transactions the line of descent has that is asked for; 0 if there is none.
-    pub line: usize,
 }
 
-/// The day of this seed. Most are small: of taps, in layers, or of anything; every 100th is large, every 20th
-/// in between.
+/// The day of this seed. Most are small; every 100th is large, every 20th in between.
 pub fn day(seed: u64) -> Day {
     let random = &mut Random::new(seed);
     let builder = draw_journal(random, seed);
     let mut records = builder.records.clone();
     let mut table = builder.table();
-    let long = seed % 100 == 0 || is_descent(seed);
-    let intact = random.percent(55) || (long && random.percent(30));
+    let intact = random.percent(55) || (seed % 100 == 0 && random.percent(30));
     if !intact {
         damage_some(random, &mut records, &mut table);
     }
@@ -91,14 +84,8 @@ pub fn day(seed: u64) -> Day {
     } else {
         damage::lengthen(random, &mut journal);
     }
-    let bad = if seed % 1_000 == 7 {
-        draw_long_bad(random, &builder)
-    } else {
-        draw_bad(random, &builder, is_descent(seed))
-    };
+    let bad = draw_bad(random, &builder, seed);
     let chain_of = draw_chain_of(random, &builder);
-    let lineage_of = draw_lineage_of(random, &builder, &bad);
-    let line = builder.line_length(&bad, lineage_of);
     Day {
         seed,
         journal,
@@ -107,9 +94,7 @@ pub fn day(seed: u64) -> Day {
         counts,
         append: draw_append(random, &builder),
         chain_of,
-        lsns: draw_list(random, builder.records_of(chain_of) as usize),
-        lineage_of,
-        line: draw_list(random, line),
+        lsns: draw_lsns(random, builder.records_of(chain_of) as usize),
         fresh: draw_fresh(random),
         items: draw_items(random),
         table_file: draw_file(random, table.iter().flat_map(|v| v.to_le_bytes())),
@@ -120,36 +105,18 @@ pub fn day(seed: u64) -> Day {
             initial: builder.initial_table(),
             undone: builder.undo_set(&bad),
             repaired_bytes: builder.repaired_bytes(&bad),
-            line,
         },
         table,
         bad,
     }
 }
 
-/// Whether the day of this seed is one of many or long lines of descent. In others some are, too.
-fn is_descent(seed: u64) -> bool {
-    if seed % 100 == 0 {
-        (seed / 100) % 3 == 2
-    } else {
-        seed % 20 != 1 && matches!(seed % 8, 5 | 6)
-    }
-}
-
 /// A journal that passes with its table, by the size that the seed stands for.
 fn draw_journal(random: &mut Random, seed: u64) -> Builder {
-    if seed % 100 == 0 && is_descent(seed) {
-        draw_large_descent(random)
-    } else if seed % 100 == 0 {
+    if seed % 100 == 0 {
         draw_large(random, seed / 100)
     } else if seed % 20 == 1 {
         draw_medium(random)
-    } else if is_descent(seed) {
-        let terminated = random.percent(95);
-        draw_layers(random, terminated)
-    } else if seed % 2 == 0 {
-        let terminated = random.percent(92);
-        draw_taps(random, terminated)
     } else {
         draw_small(random)
     }
@@ -167,70 +134,16 @@ fn draw_small(random: &mut Random) -> Builder {
         aborts: random.pick(&[0, 20, 50]),
         terminations: random.between(10, 40),
         hot: random.between(1, items),
-        rewrites: random.pick(&[0, 20, 50, 90]),
-        returns: random.pick(&[0, 10, 40]),
     };
     play(random, &shape)
-}
-
-/// Short transactions one after the other over an item or two, with many writes that leave the
-/// amount as it is or bring back an earlier one.
-fn draw_taps(random: &mut Random, terminated: bool) -> Builder {
-    let transactions = random.between(2, 10);
-    let shape = Shape {
-        items: random.pick(&[1, 1, 2, 3]),
-        numbers: numbers(random, transactions),
-        terminated,
-        aborts: random.pick(&[0, 15]),
-        rewrites: random.pick(&[0, 10, 30]),
-        returns: random.pick(&[10, 40]),
-        ..Shape::default()
-    };
-    taps(random, &shape)
-}
-
-/// Up to ten transactions that read from those of the layer ahead.
-fn draw_layers(random: &mut Random, terminated: bool) -> Builder {
-    let transactions = random.between(4, 10);
-    let mut numbers = numbers(random, transactions);
-    if random.percent(70) {
-        shuffle(random, &mut numbers);
-    }
-    let shape = Shape {
-        numbers,
-        terminated,
-        aborts: random.pick(&[0, 0, 15]),
-        rewrites: random.pick(&[0, 0, 20]),
-        ..Shape::default()
-    };
-    if random.percent(50) {
-        let width = random.between(2, 3);
-        return layers(random, &shape, &[width, width, 1], None);
-    }
-    let widths = [(); 3].map(|()| random.pick(&[1, 2, 2, 3]));
-    let share = random.pick(&[40, 60, 60, 100]);
-    layers(random, &shape, &widths, Some(share))
 }
 
 fn draw_medium(random: &mut Random) -> Builder {
     let items = random.between(1, 40);
     let transactions = random.between(5, 60);
     let numbers = numbers(random, transactions);
-    let rewrites = random.pick(&[0, 10, 40, 95]);
     if random.percent(30) {
-        return dependence(random, &numbers, items, 15, rewrites);
-    }
-    if random.percent(25) {
-        let widths = [(); 3].map(|()| random.between(1, 10));
-        let share = random.pick(&[None, Some(20), Some(60), Some(100)]);
-        let shape = Shape {
-            numbers,
-            terminated: true,
-            aborts: random.pick(&[0, 5]),
-            rewrites: random.pick(&[0, 10]),
-            ..Shape::default()
-        };
-        return layers(random, &shape, &widths, share);
+        return dependence(random, &numbers, items, 15);
     }
     let shape = Shape {
         items,
@@ -241,15 +154,14 @@ fn draw_medium(random: &mut Random) -> Builder {
         aborts: random.pick(&[0, 20, 60]),
         terminations: random.between(5, 30),
         hot: random.between(1, items.min(8)),
-        rewrites,
-        returns: random.pick(&[0, 10, 40]),
     };
     play(random, &shape)
 }
 
-fn large_shape(random: &mut Random) -> Shape {
+/// The limits of the layout: 3,200 records, 1,024 transactions, 1,024 items.
+fn draw_large(random: &mut Random, turn: u64) -> Builder {
     let all = numbers(random, MAX_TRANSACTION as usize);
-    Shape {
+    let mut shape = Shape {
         items: MAX_ITEMS as usize,
         numbers: all,
         records: MAX_RECORDS as usize,
@@ -258,15 +170,8 @@ fn large_shape(random: &mut Random) -> Shape {
         aborts: 15,
         terminations: 26,
         hot: 40,
-        rewrites: random.pick(&[0, 20, 60]),
-        returns: 10,
-    }
-}
-
-/// The limits of the layout: 3,200 records, 1,024 transactions, 1,024 items.
-fn draw_large(random: &mut Random, turn: u64) -> Builder {
-    let mut shape = large_shape(random);
-    match turn % 4 {
+    };
+    match turn % 5 {
         0 => {}
         1 => {
             shape.terminated = false;
@@ -275,12 +180,15 @@ fn draw_large(random: &mut Random, turn: u64) -> Builder {
             shape.hot = shape.items;
         }
         2 => {
+            let items = random.pick(&[1, 2, 500]);
+            return dependence(random, &shape.numbers, items, 5);
+        }
+        3 => {
             shape.numbers.truncate(random.between(1, 30));
-            shape.terminations = random.below(2);
+            shape.terminations = 1;
             shape.items = random.between(1, 20);
             shape.hot = shape.items;
             shape.aborts = 40;
-            shape.rewrites = 95;
         }
         _ => {
             shape.records = random.between(1_000, 3_199);
@@ -289,33 +197,6 @@ fn draw_large(random: &mut Random, turn: u64) -> Builder {
         }
     }
     play(random, &shape)
-}
-
-/// As large: long chains, a wide fan out and in again, layers with many lines of one length.
-fn draw_large_descent(random: &mut Random) -> Builder {
-    let shape = Shape {
-        numbers: numbers(random, MAX_TRANSACTION as usize),
-        terminated: true,
-        aborts: random.pick(&[0, 2]),
-        rewrites: random.pick(&[0, 5]),
-        ..Shape::default()
-    };
-    match random.below(4) {
-        0 => {
-            let items = random.pick(&[1, 2, 500]);
-            let rewrites = random.pick(&[0, 20, 60]);
-            dependence(random, &shape.numbers, items, 5, rewrites)
-        }
-        1 => dependence(random, &shape.numbers, 1, 0, 0),
-        2 => {
-            let wide = random.between(400, 600);
-            layers(random, &shape, &[1, wide, 1], Some(95))
-        }
-        _ => {
-            let widths = [(); 2].map(|()| random.between(2, 5));
-            layers(random, &shape, &widths, Some(70))
-        }
-    }
 }
 
 /// One to four faults in journal and table, often several in one place.
@@ -368,32 +249,23 @@ fn draw_counts(random: &mut Random, records: &[Record]) -> [u32; 4] {
     counts
 }
 
-/// Committed numbers that reach over the part of the list file that is read; the rest is unknown.
-fn draw_long_bad(random: &mut Random, builder: &Builder) -> Vec<u16> {
+/// Committed numbers with repeats; in one of five also others; rarely a long list.
+fn draw_bad(random: &mut Random, builder: &Builder, seed: u64) -> Vec<u16> {
     let commits = builder.commits();
     let mut bad = Vec::new();
-    if !commits.is_empty() {
-        bad.extend((0..FILE_BYTES / 2).map(|_| random.pick(commits)));
+    if seed % 1_000 == 7 && !commits.is_empty() {
+        // Reaches over the part of the list file that is read; the rest is unknown.
+        let length = FILE_BYTES / 2;
+        bad = (0..length).map(|_| random.pick(commits)).collect();
+        bad.push(0);
+        return bad;
     }
-    bad.push(0);
-    bad
-}
-
-/// Committed numbers with repeats; in one of five also others. Where lines of descent are wanted, most
-/// often just the first one, two or three to commit: lines from there on are long, and as long as each other.
-fn draw_bad(random: &mut Random, builder: &Builder, is_descent: bool) -> Vec<u16> {
-    let commits = builder.commits();
-    let mut bad = Vec::new();
     let length = match random.below(10) {
         0 | 1 => 0,
         2 => random.below(60),
-        _ => random.pick(&[1, 1, 1, 2, 3, 4]),
+        _ => random.between(1, 4),
     };
-    if is_descent && random.percent(70) {
-        let first = commits.len().min(random.pick(&[1, 2, 2, 3]));
-        bad = commits[..first].to_vec();
-        bad.rotate_left(random.below(first));
-    } else if !commits.is_empty() {
+    if !commits.is_empty() {
         for _ in 0..length {
             // Early commits have the long lines of dependence.
             let early = random.below(commits.len()) / random.pick(&[1, 1, 4]);
@@ -451,11 +323,7 @@ fn draw_append(random: &mut Random, builder: &Builder) -> Append {
         READ | WRITE => draw_accessed(random, builder),
         _ => 0,
     };
-    let after = match kind {
-        WRITE if random.percent(25) => builder.value(item),
-        WRITE => random.amount(),
-        _ => 0,
-    };
+    let after = if kind == WRITE { random.amount() } else { 0 };
     Append {
         kind,
         transaction,
@@ -492,23 +360,8 @@ fn draw_chain_of(random: &mut Random, builder: &Builder) -> u16 {
     any_number(random, builder)
 }
 
-/// Most often one that the list takes back, at times the one with the longest line; else anything.
-fn draw_lineage_of(random: &mut Random, builder: &Builder, bad: &[u16]) -> u16 {
-    let undone = builder.undo_set(bad);
-    if undone.is_empty() || random.percent(25) {
-        return any_number(random, builder);
-    }
-    let drawn = random.pick(&undone);
-    if random.percent(40) {
-        return drawn;
-    }
-    let lengths = builder.line_lengths(bad);
-    let longest = undone.iter().max_by_key(|&&t| lengths[t as usize]);
-    longest.copied().unwrap_or(drawn)
-}
-
 /// Exact, one short, longer, none.
-fn draw_list(random: &mut Random, needed: usize) -> Vec<u32> {
+fn draw_lsns(random: &mut Random, needed: usize) -> Vec<u32> {
     let length = match random.below(8) {
         0 | 1 => needed.saturating_sub(1),
         2 => needed + 1,
@@ -566,20 +419,11 @@ pub struct Appends {
     pub appends: Vec<Append>,
 }
 
-/// Random posts, many of which are refused. In half of the sequences there are two amounts only, so
-/// that many writes leave the amount as it is.
+/// Random posts, many of which are refused.
 pub fn appends(seed: u64) -> Appends {
     let random = &mut Random::new(!seed);
     let items = random.between(1, 4);
     let length = random.between(20, 20 * 40);
-    let few = random.percent(50);
-    let draw_amount = |random: &mut Random| {
-        if few {
-            random.below(2) as i32
-        } else {
-            random.amount()
-        }
-    };
     let one = |random: &mut Random| {
         let kind = random.pick(&[0, 1, 1, 1, 1, 1, 1, 2, 2, 2, 2, 2, 2, 3, 3, 4, 5]);
         let access = kind == READ || kind == WRITE || random.percent(10);
@@ -592,12 +436,12 @@ pub fn appends(seed: u64) -> Appends {
             } else {
                 0
             },
-            after: if amount { draw_amount(random) } else { 0 },
+            after: if amount { random.amount() } else { 0 },
         }
     };
     let count = random.between(10, 120);
     Appends {
-        initial: (0..items).map(|_| draw_amount(random)).collect(),
+        initial: play::initial_table(random, items),
         journal: random.bytes(length),
         appends: (0..count).map(|_| one(random)).collect(),
     }
@@ -622,25 +466,6 @@ pub struct UndoSequence {
 /// A random sequence of undo calls, refused ones included.
 pub fn undo_sequence(seed: u64) -> UndoSequence {
     let random = &mut Random::new(seed ^ 0x5EED);
-    let kind = random.below(20);
-    let is_descent = kind >= 15;
-    let builder = match kind {
-        0..=6 => draw_taps(random, true),
-        _ if is_descent => draw_layers(random, true),
-        _ => draw_finished(random),
-    };
-    let mut journal = encode_all(&builder.records);
-    damage::lengthen(random, &mut journal);
-    let calls = (0..random.below(6)).map(|_| draw_call(random, &builder, is_descent));
-    UndoSequence {
-        journal,
-        table: builder.table(),
-        calls: calls.collect(),
-    }
-}
-
-/// Interleaved transactions, all of them ended.
-fn draw_finished(random: &mut Random) -> Builder {
     let items = random.between(1, 8);
     let transactions = random.between(1, 20);
     let shape = Shape {
@@ -652,20 +477,26 @@ fn draw_finished(random: &mut Random) -> Builder {
         aborts: random.pick(&[0, 20, 50]),
         terminations: random.between(10, 40),
         hot: random.between(1, items),
-        rewrites: random.pick(&[0, 20, 50, 90]),
-        returns: random.pick(&[0, 10, 40]),
     };
-    play(random, &shape)
+    let builder = play(random, &shape);
+    let mut journal = encode_all(&builder.records);
+    damage::lengthen(random, &mut journal);
+    let calls = (0..random.below(6)).map(|_| draw_call(random, &builder));
+    UndoSequence {
+        journal,
+        table: builder.table(),
+        calls: calls.collect(),
+    }
 }
 
-fn draw_call(random: &mut Random, builder: &Builder, is_descent: bool) -> UndoCall {
+fn draw_call(random: &mut Random, builder: &Builder) -> UndoCall {
     let length = if random.percent(85) {
         random.between(20 * 91, 20 * 100)
     } else {
         random.below(20 * 91)
     };
     UndoCall {
-        bad: draw_bad(random, builder, is_descent),
+        bad: draw_bad(random, builder, 0),
         status: draw_status(random),
         out: random.bytes(length),
     }

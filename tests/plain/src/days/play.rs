@@ -3,10 +3,8 @@
 use super::builder::{Builder, Progress};
 use super::random::Random;
 use crate::format::*;
-use std::ops::Range;
 
 /// What a played journal looks like.
-#[derive(Default)]
 pub struct Shape {
     pub items: usize,
     /// The transaction numbers to use, in the order of their first records.
@@ -23,10 +21,6 @@ pub struct Shape {
     pub terminations: usize,
     /// How many items most accesses go to.
     pub hot: usize,
-    /// How many of a hundred writes leave the amount as it is.
-    pub rewrites: usize,
-    /// How many of a hundred other writes go back to an amount that the item had.
-    pub returns: usize,
 }
 
 /// Up to `count` different transaction numbers: from 1 on, down from 1,024, or anywhere.
@@ -41,13 +35,13 @@ pub fn numbers(random: &mut Random, count: usize) -> Vec<u16> {
     all
 }
 
-pub fn shuffle<T>(random: &mut Random, list: &mut [T]) {
+fn shuffle(random: &mut Random, list: &mut [u16]) {
     for i in (1..list.len()).rev() {
         list.swap(i, random.below(i + 1));
     }
 }
 
-fn initial_table(random: &mut Random, items: usize) -> Vec<i32> {
+pub fn initial_table(random: &mut Random, items: usize) -> Vec<i32> {
     (0..items).map(|_| random.amount()).collect()
 }
 
@@ -90,7 +84,7 @@ fn turn(random: &mut Random, builder: &mut Builder, shape: &Shape, transaction: 
         if !reads.is_empty() && random.percent(50) {
             let item = random.pick(reads);
             if builder.may_write(transaction, item) {
-                let after = draw_after(random, builder, shape, transaction, item);
+                let after = random.amount();
                 return builder.write(transaction, item, after);
             }
         }
@@ -100,29 +94,6 @@ fn turn(random: &mut Random, builder: &mut Builder, shape: &Shape, transaction: 
         }
     }
     terminate(random, builder, shape, transaction);
-}
-
-/// The amount that is there; the one that the transaction found, or the opening amount; one that
-/// differs in a single bit; any.
-fn draw_after(
-    random: &mut Random,
-    builder: &Builder,
-    shape: &Shape,
-    transaction: u16,
-    item: u32,
-) -> i32 {
-    if random.percent(shape.rewrites) {
-        builder.value(item)
-    } else if random.percent(shape.returns) {
-        match builder.found(transaction, item) {
-            found if found != builder.value(item) => found,
-            _ => builder.initial(item),
-        }
-    } else if random.percent(30) {
-        builder.value(item) ^ 1 << random.below(32)
-    } else {
-        random.amount()
-    }
 }
 
 fn any_item(random: &mut Random, shape: &Shape) -> u32 {
@@ -147,42 +118,9 @@ fn terminate(random: &mut Random, builder: &mut Builder, shape: &Shape, transact
     }
 }
 
-/// Transactions of the given shape, one after the other: each reads an item, reads and writes it up
-/// to four times more, and ends; the last one only if all do. Some change no amount at all.
-pub fn taps(random: &mut Random, shape: &Shape) -> Builder {
-    let mut builder = Builder::new(&initial_table(random, shape.items));
-    for &transaction in &shape.numbers {
-        let item = random.below(shape.items) as u32;
-        let idle = random.percent(35);
-        builder.read(transaction, item);
-        for _ in 0..random.below(5) {
-            if random.percent(30) {
-                builder.read(transaction, item);
-            } else if idle {
-                builder.write(transaction, item, builder.value(item));
-            } else {
-                let after = draw_after(random, &builder, shape, transaction, item);
-                builder.write(transaction, item, after);
-            }
-        }
-        if shape.terminated || shape.numbers.last() != Some(&transaction) {
-            terminate(random, &mut builder, shape, transaction);
-        }
-    }
-    builder.finish();
-    builder
-}
-
 /// A long chain of dependence: each transaction reads what the one before wrote, writes on, and
-/// commits; some roll back between, and some write the amount that is there. The chain passes
-/// through the items in turn.
-pub fn dependence(
-    random: &mut Random,
-    numbers: &[u16],
-    items: usize,
-    aborts: usize,
-    rewrites: usize,
-) -> Builder {
+/// commits; some roll back between. The chain passes through the items in turn.
+pub fn dependence(random: &mut Random, numbers: &[u16], items: usize, aborts: usize) -> Builder {
     let mut builder = Builder::new(&initial_table(random, items));
     let mut from = 0;
     for &transaction in numbers {
@@ -194,11 +132,7 @@ pub fn dependence(
         if to != from {
             builder.read(transaction, to);
         }
-        let after = if random.percent(rewrites) {
-            builder.value(to)
-        } else {
-            random.amount()
-        };
+        let after = random.amount();
         builder.write(transaction, to, after);
         if random.percent(aborts) {
             builder.abort(transaction);
@@ -209,91 +143,6 @@ pub fn dependence(
     }
     builder.finish();
     builder
-}
-
-/// Transactions of the given shape in layers of these widths, in turn; each has an item of its own. It
-/// reads the items of so many of a hundred of the layer ahead, or else of those in its own place there, then
-/// reads and writes its own. So several lines of one length lead to most of them. The transactions of a layer
-/// are active side by side; the last one ends only if all do. As many layers as there is room for.
-pub fn layers(
-    random: &mut Random,
-    shape: &Shape,
-    widths: &[usize],
-    share: Option<usize>,
-) -> Builder {
-    let transactions = shape.numbers.len();
-    let mut builder = Builder::new(&initial_table(random, transactions));
-    let mut ahead = 0..0;
-    for width in widths.iter().cycle() {
-        let layer = ahead.end..transactions.min(ahead.end + width);
-        let places = layer.len().min(ahead.len()).max(1);
-        let mut reads = Vec::new();
-        for place in 0..layer.len() {
-            let own = |item: &usize| (item - ahead.start) % places == place % places;
-            let items: Vec<usize> = match share {
-                Some(share) => ahead.clone().filter(|_| random.percent(share)).collect(),
-                None => ahead.clone().filter(own).collect(),
-            };
-            reads.push(draw_reads(random, &ahead, items));
-        }
-        // Behind its reads each has four records more at the most.
-        let records: usize = reads.iter().map(|items| items.len() + 4).sum();
-        if layer.is_empty() || builder.count() + records > MAX_RECORDS as usize {
-            break;
-        }
-        play_layer(random, &mut builder, shape, layer.clone(), &reads);
-        ahead = layer;
-    }
-    builder.finish();
-    builder
-}
-
-/// What a transaction reads of the others' items: these of the layer ahead, at times one of an earlier layer,
-/// at times one of them twice.
-fn draw_reads(random: &mut Random, ahead: &Range<usize>, mut items: Vec<usize>) -> Vec<u32> {
-    if ahead.start > 0 && random.percent(15) {
-        items.push(random.below(ahead.start));
-    }
-    if !items.is_empty() && random.percent(10) {
-        items.push(random.pick(&items));
-    }
-    shuffle(random, &mut items);
-    items.into_iter().map(|item| item as u32).collect()
-}
-
-/// The reads of a layer's transactions, then their writes, then their ends. Some read what they wrote.
-fn play_layer(
-    random: &mut Random,
-    builder: &mut Builder,
-    shape: &Shape,
-    layer: Range<usize>,
-    reads: &[Vec<u32>],
-) {
-    for (own, items) in layer.clone().zip(reads) {
-        let transaction = shape.numbers[own];
-        for &item in items {
-            builder.read(transaction, item);
-        }
-    }
-    for own in layer.clone() {
-        let (transaction, item) = (shape.numbers[own], own as u32);
-        builder.read(transaction, item);
-        let before = builder.value(item);
-        let after = if random.percent(shape.rewrites) {
-            before
-        } else {
-            before ^ 1 << random.below(32)
-        };
-        builder.write(transaction, item, after);
-        if random.percent(20) {
-            builder.read(transaction, item);
-        }
-    }
-    for own in layer {
-        if shape.terminated || own + 1 < shape.numbers.len() {
-            terminate(random, builder, shape, shape.numbers[own]);
-        }
-    }
 }
 
 /// A committed, rolled-back, active or unused number, or one outside the numbering.

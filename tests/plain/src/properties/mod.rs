@@ -4,11 +4,9 @@
 pub mod counting;
 pub mod cutting;
 pub mod history;
-pub mod lineage;
 pub mod loans;
 pub mod posting;
 pub mod reporting;
-pub mod rewriting;
 pub mod undoing;
 
 use crate::compare::Implementation;
@@ -22,7 +20,7 @@ struct Property<I> {
     holds: fn(&I, u64) -> u64,
 }
 
-fn all<I: Implementation>() -> [Property<I>; 16] {
+fn all<I: Implementation>() -> [Property<I>; 12] {
     let property = |name, seeds, cases, holds| Property {
         name,
         seeds,
@@ -83,30 +81,6 @@ fn all<I: Implementation>() -> [Property<I>; 16] {
             1_500,
             1_000,
             undoing::what_is_left_is_the_models,
-        ),
-        property(
-            "rewrites draw nobody in",
-            1_500,
-            1_000,
-            rewriting::rewrites_draw_nobody_in,
-        ),
-        property(
-            "lines are the first of the shortest",
-            1_500,
-            20_000,
-            lineage::lines_are_the_first_of_the_shortest,
-        ),
-        property(
-            "each step of a line is shown, on days of any size",
-            4_000,
-            1_500,
-            lineage::lines_of_days_of_any_size,
-        ),
-        property(
-            "rewrites give no step",
-            1_000,
-            5_000,
-            lineage::rewrites_give_no_step,
         ),
         property(
             "incremental repair equals one call",

@@ -6,27 +6,24 @@ use plain::compare::Implementation;
 
 #[test]
 fn full_journal_of_1024_transactions() {
-    // 1,024 transactions of three or four records, 3,200 records in all. Each write adds a penny.
+    // 1,024 transactions of three or four records, 3,200 records in all.
     let mut lines = Vec::new();
-    let mut amount = 0;
     for transaction in 1..=1_024 {
         lines.push(read(transaction, 0));
-        for _ in 0..if transaction <= 128 { 2 } else { 1 } {
-            lines.push(write(transaction, 0, amount, amount + 1));
-            amount += 1;
+        lines.push(write(transaction, 0, 0, 0));
+        if transaction <= 128 {
+            lines.push(write(transaction, 0, 0, 0));
         }
         lines.push(commit(transaction));
     }
-    assert_eq!((lines.len(), amount), (3_200, 1_152));
+    assert_eq!(lines.len(), 3_200);
     let full = journal(1, &lines);
-    assert_eq!(check(&full, &[1_152]), Ok(0));
-    let all = repair(&full, &[1_152], &[1]);
+    assert_eq!(check(&full, &[0]), Ok(0));
+    let all = repair(&full, &[0], &[1]);
     assert_eq!(all.answer, counts(0, 1_024, 0, 20));
-    assert_eq!(all.table, [0]);
-    let last = repair(&full, &[1_152], &[1_024]);
+    let last = repair(&full, &[0], &[1_024]);
     assert_eq!(last.answer, counts(1_023, 1, 0, 20 * 3_198));
-    assert_eq!(last.table, [1_151]);
-    let none = repair(&full, &[1_152], &[]);
+    let none = repair(&full, &[0], &[]);
     assert_eq!(none.answer, counts(1_024, 0, 0, 64_020));
     assert_eq!(none.repaired, full);
 }
@@ -267,8 +264,6 @@ fn every_refusal_of_4_to_9_by_hand() {
         assert_eq!(chain(&bytes, 1, &mut [0; 9]), refused(number, place));
         let refusal = undo_refusal(&bytes, &table, &[]);
         assert_eq!((refusal.number, refusal.place), (number, place));
-        let line = line_of(&bytes, &table, &[9], 9, 0);
-        assert_eq!(line, refused(number, place));
     }
 }
 
@@ -330,7 +325,6 @@ fn any_bytes_are_answered() {
             assert!(check(&journal, &[0]).is_err());
             let answer = CALLS.undo(&journal, &mut [0], &[1], &mut [0; 1_025], &mut [0; 99]);
             assert!(answer.is_err());
-            assert!(line_of(&journal, &[0], &[1], 1, 9).is_err());
             let answer = CALLS.append(&mut journal, &mut [], &mut [0; 4], 9, 9, 9, 9);
             assert!(answer.is_err());
         }

@@ -154,17 +154,6 @@ pub fn undo_refusal(journal: &[u8], table: &[i32], bad: &[u16]) -> Refusal {
     refusal
 }
 
-/// The line of descent that a call with a list of this length gives.
-pub fn line_of(
-    journal: &[u8],
-    table: &[i32],
-    bad: &[u16],
-    transaction: u16,
-    length: usize,
-) -> Result<Vec<u32>, Refusal> {
-    plain::compare::line(&CALLS, journal, table, bad, transaction, length)
-}
-
 /// How many records of each kind the head's count reaches.
 pub fn counts_of(journal: &[u8]) -> [u32; 4] {
     let count = u32::from_le_bytes([journal[4], journal[5], journal[6], journal[7]]);

@@ -46,15 +46,13 @@ fn undo(journal: &[u8], table: &[i32], bad: &[u16]) -> Result<Undone, Refusal> {
     undo_with(journal, table, bad, (1_025, 64_020))
 }
 
-/// Check, append, the chain walk, undo and the line of descent all refuse the journal so.
+/// Check, append, the chain walk and undo all refuse the journal so.
 fn all_refuse(journal: &[u8], table: &[i32], number: u32, place: u64) {
     assert_eq!(check(journal, table), refused(number, place));
     let answer = append_within(journal, table, [0; 4], read(1, 0));
     assert_eq!(answer, refused(number, place));
     assert_eq!(chain(journal, 1, &mut []), refused(number, place));
     assert_eq!(undo(journal, table, &[]), refused(number, place));
-    let line = line_of(journal, table, &[0], 0, 0);
-    assert_eq!(line, refused(number, place));
 }
 
 /// Reads and at last a commit by transaction 1,024, so many records in all.
@@ -214,7 +212,6 @@ fn item_1023_and_1024() {
     // The place of 10 is an item.
     assert_eq!(check(&bytes, &table), refused(10, 1_023));
     assert_eq!(undo(&bytes, &table, &[1]), refused(10, 1_023));
-    assert_eq!(line_of(&bytes, &table, &[1], 1, 1), refused(10, 1_023));
     let answer = append_within(&bytes, &table, [1, 1, 1, 0], read(2, 0));
     assert_eq!(answer, refused(10, 1_023));
     for outside in [1_024, 65_536, u32::MAX] {
@@ -242,8 +239,6 @@ fn transactions_0_1_1024_and_1025() {
         assert_eq!(check(&open, &[0]), Ok(1));
         // The place of 11 is a transaction.
         assert_eq!(undo(&open, &[0], &[]), refused(11, transaction.into()));
-        let line = line_of(&open, &[0], &[], transaction, 1);
-        assert_eq!(line, refused(11, transaction.into()));
         let (done, table) = append(&open, &[0], commit(transaction)).unwrap();
         assert_eq!(chain(&done, transaction, &mut [0; 2]), Ok(2));
         let repair = repair(&done, &table, &[transaction, transaction]);
@@ -263,7 +258,6 @@ fn table_lengths_around_the_item_count() {
             let table = vec![0; length];
             assert_eq!(check(&bytes, &table), refused(3, 0));
             assert_eq!(undo(&bytes, &table, &[]), refused(3, 0));
-            assert_eq!(line_of(&bytes, &table, &[0], 0, 0), refused(3, 0));
             let answer = append_within(&bytes, &table, counts_of(&bytes), read(1, 0));
             assert_eq!(answer, refused(3, 0));
         }

@@ -1,5 +1,4 @@
-//! Days written by hand, each with its answer from documents 01 and 02, asked of the plain
-//! implementation.
+//! Days written by hand, each with its answer from document 01, asked of the plain implementation.
 
 mod boundaries;
 mod common;
@@ -7,10 +6,8 @@ mod counting;
 mod cutting;
 mod example;
 mod limits;
-mod lineage;
 mod mistakes;
 mod readings;
-mod rewriting;
 
 pub use plain::report;
 
