@@ -19,14 +19,14 @@ use journal::Reason;
 use validate::verify;
 
 // What append answers. specs/Answers.antt gives document 01's answer for each case.
-#[derive(Drop)]
+#[derive(Clone, Copy)]
 pub enum Outcome {
     Done,
     Refused(Reason),
 }
 
 // The answer, and the counts afterwards.
-#[derive(Drop)]
+#[derive(Clone, Copy)]
 pub struct Appended {
     pub answer: Outcome,
     pub counts: Counts,

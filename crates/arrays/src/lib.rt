@@ -11,7 +11,7 @@ use format::{Key, Lsn, TransactionId, transaction_at};
 use lists::{at, code_at};
 
 // Who touched an item: another active transaction, and the one that asks.
-#[derive(Drop)]
+#[derive(Clone, Copy)]
 pub struct Touched {
     pub other: bool,
     pub own: bool,

@@ -19,14 +19,14 @@ use rules::Verdict;
 use scan::records;
 
 // How many records were visited. specs/Answers.antt gives document 01's answer for each case.
-#[derive(Drop)]
+#[derive(Clone, Copy)]
 pub enum Walk {
     Visited(u32),
     Refused(Reason),
 }
 
 // The first record of a transaction.
-#[derive(Drop)]
+#[derive(Clone, Copy)]
 enum Begun {
     At(Lsn),
     Refused(Reason),

@@ -14,7 +14,7 @@ use journal::Reason;
 use lists::one_more;
 
 // Record counts by kind.
-#[derive(Drop)]
+#[derive(Clone, Copy)]
 pub struct Counts {
     pub reads: u32,
     pub writes: u32,
@@ -23,7 +23,7 @@ pub struct Counts {
 }
 
 // The counts of a journal. specs/Answers.antt gives document 01's answer for each case.
-#[derive(Drop)]
+#[derive(Clone, Copy)]
 pub enum Counted {
     Counts(Counts),
     Refused(Reason),

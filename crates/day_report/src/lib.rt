@@ -13,7 +13,7 @@ use format::{MAX_JOURNAL_BYTES, STATUS_BYTES};
 use report::REPORT_BYTES;
 
 // What printing answers: the report's length; or the buffer is too short for some report.
-#[derive(Drop)]
+#[derive(Clone, Copy)]
 pub enum Printed {
     Bytes(usize),
     NoRoom,

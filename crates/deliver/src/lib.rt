@@ -13,7 +13,7 @@ use journal::Reason;
 use repair::{number_of, rank_at};
 
 // How many transactions survive, are undone and were aborted, and the bytes of the copy.
-#[derive(Drop)]
+#[derive(Clone, Copy)]
 pub struct UndoTotals {
     pub surviving: u32,
     pub undone: u32,
@@ -22,7 +22,7 @@ pub struct UndoTotals {
 }
 
 // What a take-back answers. specs/Answers.antt gives document 01's answer for each.
-#[derive(Drop)]
+#[derive(Clone, Copy)]
 pub enum Undone {
     Done(UndoTotals),
     Refused(Reason),

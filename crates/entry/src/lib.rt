@@ -20,7 +20,7 @@ use journal::Reason;
 use rules::{Verdict, judge_added};
 
 // The record count of a journal that takes the new record, or why it does not.
-#[derive(Drop)]
+#[derive(Clone, Copy)]
 pub enum Plan {
     Enter(u32),
     Refused(Reason),

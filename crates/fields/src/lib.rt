@@ -12,7 +12,7 @@ use format::{Lsn, MAX_ITEMS, MAX_RECORDS, MAX_TRANSACTION, RECORD_BYTES, Record,
 use journal::Reason;
 
 // The head's record count and item count.
-#[derive(Drop)]
+#[derive(Clone, Copy)]
 pub enum Headed {
     Size(u32, u32),
     Refused(Reason),

@@ -10,7 +10,7 @@ use libc::{STDERR_FILENO, STDOUT_FILENO};
 use report::REPORT_BYTES;
 
 // How many bytes of a file were read; or it is there and cannot be read.
-#[derive(Drop)]
+#[derive(Clone, Copy)]
 pub enum Loaded {
     Bytes(usize),
     Failed,

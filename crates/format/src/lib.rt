@@ -37,17 +37,17 @@ pub const MAX_JOURNAL_BYTES: usize = RECORD_BYTES * RECORD_SLOTS;
 
 // The three numberings of document 01: record numbers (log sequence numbers), sale numbers (transaction ids) and item numbers
 // (keys).
-#[derive(Drop)]
+#[derive(Clone, Copy)]
 pub struct Lsn(pub u32);
 
-#[derive(Drop)]
+#[derive(Clone, Copy)]
 pub struct TransactionId(pub u16);
 
-#[derive(Drop)]
+#[derive(Clone, Copy)]
 pub struct Key(pub u32);
 
 // The fields of 20 bytes. In record 0, the head, `next` is the record count and `item` the item count.
-#[derive(Drop)]
+#[derive(Clone, Copy)]
 pub struct Record {
     pub kind: u8,
     pub reserved: u8,

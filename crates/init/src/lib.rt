@@ -9,7 +9,7 @@ use format::{Key, Lsn, MAX_ITEMS, RECORD_BYTES, Record, TransactionId};
 use journal::Reason;
 
 // What start answers. specs/Answers.antt gives document 01's answer for each.
-#[derive(Drop)]
+#[derive(Clone, Copy)]
 pub enum Init {
     Done,
     Refused(Reason),

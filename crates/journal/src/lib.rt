@@ -9,7 +9,7 @@ use format::{Key, Lsn, TransactionId};
 
 // Why a call is refused, with the place (document 01, "Reasons for handing it back"). specs/Reasons.antt gives each its number and
 // place.
-#[derive(Drop)]
+#[derive(Clone, Copy)]
 pub enum Reason {
     Truncated,
     Header,

@@ -17,7 +17,7 @@ use format::{Key, Lsn, Record, TransactionId, record_at, transaction_at};
 use journal::Reason;
 
 // What a stage finds.
-#[derive(Drop)]
+#[derive(Clone, Copy)]
 pub enum Verdict {
     Passed,
     Refused(Reason),

@@ -8,7 +8,7 @@ ghost use Rattle.text.specs.Decimal.{decimal, decimal_z, decimal_s};
 ghost use Rattle.text.specs.Lines.{newline, count_line, undone_line, change_line, sum_line, end_line, refused_line};
 
 // A signed number, as it is printed: a sign and a size.
-#[derive(Drop)]
+#[derive(Clone, Copy)]
 pub struct Signed {
     pub minus: bool,
     pub size: u64,

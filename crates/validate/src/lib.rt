@@ -21,7 +21,7 @@ use scan::records;
 use settle::{active_count, final_state};
 
 // How many transactions are active.
-#[derive(Drop)]
+#[derive(Clone, Copy)]
 pub enum Checked {
     Active(u32),
     Refused(Reason),
