@@ -15,8 +15,16 @@ module _ {A : Type 0} where
   suffix-length same = omega arith
   suffix-length (behind i) = omega (arith, suffix-length i)
 
+  suffix_whole : {q l : List A} → Suffix q l → length l ≡ length q → l ≡ q
+  suffix_whole same e = refl
+  suffix_whole (behind i) e = absurd (omega (arith, suffix-length i))
+
+  -- one that is below in both ways: of the lists behind the first element, if each such is known by its length
+  suffix_behind : {a : A} {l p : List A} (q : List A) → ((r : List A) → Suffix r l → length p ≡ length r → p ≡ r) → Suffix p l → Suffix q (a ∷ l)
+      → length p ≡ length q → p ≡ q
+  suffix_behind q h i (behind k) e = h q k e
+  suffix_behind q h i same e = absurd (omega (arith, suffix-length i))
+
   pub suffix-unique : {p q l : List A} → Suffix p l → Suffix q l → length p ≡ length q → p ≡ q
-  suffix-unique same same e = refl
-  suffix-unique same (behind i) e = absurd (omega (arith, suffix-length i))
-  suffix-unique (behind i) same e = absurd (omega (arith, suffix-length i))
-  suffix-unique (behind i) (behind k) e = suffix-unique i k e
+  suffix-unique same k e = suffix_whole k e
+  suffix-unique {q = q} (behind i) k e = suffix_behind q (λ r j. suffix-unique {q = r} i j) i k e
