@@ -1,6 +1,6 @@
 -- The copy passes rules 6 to 9 from the same opening amounts.
 -- Assumes nothing.
-use mathlib.Core.Path.{◌≡◌, refl, sym, ◌∙◌}
+use mathlib.Core.Path.{◌≡◌, subst, refl, sym, ◌∙◌}
 use mathlib.Core.Bool.{Bool, true, false, cond, ◌&&◌, and-false}
 use mathlib.Core.List.{List, [], ◌∷◌}
 use mathlib.Core.Option.{some}
@@ -124,7 +124,7 @@ module _ (φ : Op → Bool) (law : SourceTest φ) (o : ℕ → Amount) (l : List
         by_cases (φ (write t v y b a))
         (λ d. let g' : some (write t v y b a) ≡ some w = rw d at g in let g'' : write t v y b a ≡ w = cc in rw (← g'') (rw (eqb-true s v z) at h))
         (λ d. reader-reads_from s h p (tail-ends i) e r w (rw d at g)))
-        (λ z. clash (rw (eqb-true x y q) at r)
+        (λ z. clash (subst (λ m. any (read_of s m) p ≡ true) (eqb-true x y q) r)
         (not_conflicting-any (access_to y) (read_of s y) p v s (read-of s y) (λ r d. access-to s y r (read-access s y r d)) (legal-ends o k i).1.not_conflicting (neq-sym s v z) e)))
         (λ q. reader-reads_from s h p (tail-ends i) e r w (sym (reads_from-still φ (write t v y b a) p s x q (λ u z. refl)) ∙ f))
       where

@@ -1,6 +1,6 @@
 -- In a history that passes rules 6, 7 and 9, open transactions exclude each other, and the standing amount is what the writes seen leave.
 -- Assumes nothing.
-use mathlib.Core.Path.{◌≡◌, refl, sym, ◌∙◌}
+use mathlib.Core.Path.{◌≡◌, subst, refl, sym, ◌∙◌}
 use mathlib.Core.Bool.{Bool, true, false, not, ◌&&◌, and-false}
 use mathlib.Core.List.{[], ◌∷◌}
 use Prim.Native.Nat.{ℕ}
@@ -50,16 +50,16 @@ module _ (o : ℕ → Amount) (x : ℕ) where
   excl s v n (read t u y ∷ p) k a b r w =
       or_cases (eqb s u && eqb x y) (any (access_of s x) p) r
       (λ q. let e = eqb-true s u (and_left (eqb s u) _ q) in let f = eqb-true x y (and_right (eqb s u) _ q) in
-      clash (rw f at w) (not_conflicting-any (write_to y) (write_of v y) p u v (write-of v y) (write-to v y) k.1.not_conflicting (rw e at n) b))
+      clash (subst (λ z. any (write_of v z) p ≡ true) f w) (not_conflicting-any (write_to y) (write_of v y) p u v (write-of v y) (write-to v y) k.1.not_conflicting (rw e at n) b))
       (λ q. excl s v n p k.0 a b q w)
   excl s v n (write t u y c d ∷ p) k a b r w =
       or_cases (eqb v u && eqb x y) (any (write_of v x) p) w
       (λ q. let e = eqb-true v u (and_left (eqb v u) _ q) in let f = eqb-true x y (and_right (eqb v u) _ q) in
       let m : eqb s u ≡ false = rw e at n in
-      clash (rw (m, f) at r) (not_conflicting-any (access_to y) (access_of s y) p u s (access-of s y) (access-to s y) k.1.not_conflicting (neq-sym s u m) a))
+      clash (subst (λ z. any (access_of s z) p ≡ true) f (rw m at r)) (not_conflicting-any (access_to y) (access_of s y) p u s (access-of s y) (access-to s y) k.1.not_conflicting (neq-sym s u m) a))
       (λ q. or_cases (eqb s u && eqb x y) (any (access_of s x) p) r
       (λ z. let e = eqb-true s u (and_left (eqb s u) _ z) in let f = eqb-true x y (and_right (eqb s u) _ z) in
-      clash (rw f at q) (not_conflicting-any (access_to y) (write_of v y) p u v (write-of v y) (write-touch v y) k.1.not_conflicting (rw e at n) b))
+      clash (subst (λ z. any (write_of v z) p ≡ true) f q) (not_conflicting-any (access_to y) (write_of v y) p u v (write-of v y) (write-touch v y) k.1.not_conflicting (rw e at n) b))
       (λ z. excl s v n p k.0 a b z q))
   excl s v n (commit t u ∷ p) k a b r w = excl s v n p k.0 (or-false-right (eqb s u) _ a) (or-false-right (eqb v u) _ b) r w
   excl s v n (abort t u ∷ p) k a b r w = excl s v n p k.0 (or-false-right (eqb s u) _ a) (or-false-right (eqb v u) _ b) r w
