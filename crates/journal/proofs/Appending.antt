@@ -1,6 +1,6 @@
 -- A started journal, and a journal with one record more: bytes, records and history, and that it passes where the record may follow.
 -- Assumes nothing.
-use mathlib.Core.Path.{◌≡◌, refl, sym, ◌∙◌, ap}
+use mathlib.Core.Path.{◌≡◌, refl, sym, ◌∙◌, ap, subst, subst⁻¹}
 use mathlib.Core.Bool.{true, false, cond}
 use mathlib.Core.List.{List, [], ◌∷◌, map}
 use Prim.Native.Nat.{ℕ, zero, suc, ◌+◌, ◌*◌, ◌<◌, ◌≤◌}
@@ -20,8 +20,8 @@ use Rattle.format.specs.Bytes.{Bytes, bytes}
 use Rattle.format.specs.Layout.{bytes_of, record_at, Fitting}
 use Rattle.format.proofs.BytesLaws.{Bytes-store, length-bytes, bytes-bytes}
 use Rattle.format.proofs.LayoutLaws.{record_at-fitting, length-bytes_of, bytes_of-bytes}
-use Rattle.model.specs.History.{Op, History, Amount, Tag, tag_of, before_of, after_of, tag_in, of_tx, applied, next_in, write_to, initial}
-use Rattle.model.proofs.Extension.{latest-tag, next_last, next-extended, settled-extended, matched-extended, Befores, applied-all, initial-extended}
+use Rattle.model.specs.History.{Op, History, Amount, Tag, tag_of, before_of, after_of, tag_in, of_tx, applied, next_in, write_to, initial, tx_of}
+use Rattle.model.proofs.Extension.{Settled, latest-tag, next_last, next-extended, settled-extended, matched-extended, Befores, applied-all, initial-extended}
 use Rattle.journal.specs.Inputs.{Inputs, onto, handed_on}
 use Rattle.journal.specs.Journal.{count, items, tx_in, op_of, records, history, whole, amount_at}
 use Rattle.journal.specs.Copy.{head_with, linked_to}
@@ -305,7 +305,18 @@ module _ (d : Inputs) (r : Record) (k : Checks d) (e : Enters d.journal r) (fit 
       let o : Op = op_of (suc (count b)) r in
       let u = record-upto b i (count b) h in
       let l : length (history b (count b)) < tag_of o = omega (arith, length-history b (count b), tag_of-op_of (suc (count b)) r) in
-      simp (tag_of-op_of, tx_of-op_of) (simp (tag_of-op_of, tx_of-op_of) at (next-extended o (history-numbered b (count b)) u l))
+      let q : Op = op_of (suc i) (record_at b (suc i)) in
+      let j : History = whole b in
+      let n : ℕ = last_of b (tx_in r) in
+      let newest = next-extended o (history-numbered b (count b)) u l in
+      let of_o = subst (λ v. next_in (o ∷ j) (tag_of q) (tx_of q) ≡ cond (eqb (tag_of q) (tag_in (latest (of_tx v) j))) (tag_of o) (next_in j (tag_of q) (tx_of q)))
+      (tx_of-op_of (suc (count b)) r) newest in
+      let at_o = subst (λ m. next_in (o ∷ j) (tag_of q) (tx_of q) ≡ cond (eqb (tag_of q) n) m (next_in j (tag_of q) (tx_of q)))
+      (tag_of-op_of (suc (count b)) r) of_o in
+      let at_q = subst (λ k. next_in (o ∷ j) k (tx_of q) ≡ cond (eqb k n) (suc (count b)) (next_in j k (tx_of q)))
+      (tag_of-op_of (suc i) (record_at b (suc i))) at_o in
+      subst (λ s. next_in (o ∷ j) (suc i) s ≡ cond (eqb (suc i) n) (suc (count b)) (next_in j (suc i) s))
+      (tx_of-op_of (suc i) (record_at b (suc i))) at_q
 
   next-old : (i : ℕ) → i < count b → (record_at (extended b r) (suc i)).next.0 ≡ next_in (whole (extended b r)) (suc i) (tx_in (record_at (extended b r) (suc i)))
   next-old i h =
@@ -313,7 +324,11 @@ module _ (d : Inputs) (r : Record) (k : Checks d) (e : Enters d.journal r) (fit 
       let c : q.next.0 ≡ next_in (whole b) (suc i) (tx_in q) = chained-next b (suc i) (k.sound.right i h).chained in
       let a : (record_at (extended b r) (suc i)).next.0 ≡ cond (eqb (suc i) (last_of b (tx_in r))) (suc (count b)) q.next.0 =
       rw (record_at-old b r long small fit i h) (by_cases (eqb (suc i) (last_of b (tx_in r))) (λ z. rw z) (λ z. rw z)) in
-      a ∙ rw (c, whole-extended b r long small fit, same-record b r long small fit tx_in (λ z. refl) i h) (sym (next-in i h))
+      let n : ℕ = cond (eqb (suc i) (last_of b (tx_in r))) (suc (count b)) (next_in (whole b) (suc i) (tx_in q)) in
+      a
+      ∙ rw c
+      (subst⁻¹ (λ p. n ≡ next_in p (suc i) (tx_in (record_at (extended b r) (suc i)))) (whole-extended b r long small fit)
+      (subst⁻¹ (λ s. n ≡ next_in (op_of (suc (count b)) r ∷ whole b) (suc i) s) (same-record b r long small fit tx_in (λ z. refl) i h) (sym (next-in i h))))
 
   next-new : (record_at (extended b r) (suc (count b))).next.0 ≡ next_in (whole (extended b r)) (suc (count b)) (tx_in (record_at (extended b r) (suc (count b))))
   unfolding whole
@@ -387,8 +402,9 @@ module _ (d : Inputs) (r : Record) (k : Checks d) (e : Enters d.journal r) (fit 
         settled = λ x h.
             let l : x < items b = rw (items-extended b r long small fit) at h in
             amount-settled _ _ x
-            (rw (whole-extended b r long small fit, amount-applied_table p o t x (omega arith))
-            (settled-extended (amount_at t x) o p x (settled-amount b t x (k.settled x l))));
+            (subst⁻¹ (λ q. Settled (amount_at (applied_table p o t) x) q x) (whole-extended b r long small fit)
+            (subst⁻¹ (λ v. Settled v (o ∷ p) x) (amount-applied_table p o t x (omega arith))
+            (settled-extended (amount_at t x) o p x (settled-amount b t x (k.settled x l)))));
       }
 
   before-new : (x : ℕ) → write_to x (op_of (suc (count b)) r) ≡ true → before_of (op_of (suc (count b)) r) (amount_at t x) ≡ amount_at t x

@@ -1,6 +1,6 @@
 -- Records written one after the other behind a head, read back.
 -- Assumes nothing.
-use mathlib.Core.Path.{◌≡◌, refl, sym, ◌∙◌, ap}
+use mathlib.Core.Path.{◌≡◌, refl, sym, ◌∙◌, ap, subst⁻¹}
 use mathlib.Core.List.{List, [], ◌∷◌, ◌++◌, append_assoc, append-nil}
 use Prim.Native.Nat.{ℕ, zero, suc, ◌+◌, ◌*◌, ◌<◌, ◌≤◌}
 use native.Mathlib.Omega.{arith}
@@ -57,8 +57,13 @@ module _ (h : List ℕ) (e : length h ≡ 20) where
   records-encoded [] z f = refl
   records-encoded (r ∷ rs) z (and g f) =
       let s : h ++ (encoded rs ++ bytes_of r) ++ z ≡ h ++ encoded rs ++ bytes_of r ++ z = ap (λ v. v ++ z) (sym (append_assoc h (encoded rs) (bytes_of r))) in
-      rw (s, record_at-here (suc (length rs)) (h ++ encoded rs) z (length-append h (encoded rs) ∙ omega (arith, length-encoded rs)) g)
-      (ap (λ p. r ∷ p) (rw (append_assoc (h ++ encoded rs) (bytes_of r) z) (records-encoded rs (bytes_of r ++ z) f)))
+      let one : (b : List ℕ) → record_at b (suc (length rs)) ≡ r → records b (length rs) ≡ rs → records b (suc (length rs)) ≡ r ∷ rs =
+      λ b d e. rw (d, e) in
+      let t : h ++ encoded rs ++ bytes_of r ++ z ≡ h ++ encoded rs ++ (bytes_of r ++ z) = append_assoc (h ++ encoded rs) (bytes_of r) z in
+      one (h ++ encoded (r ∷ rs) ++ z)
+      (subst⁻¹ (λ b. record_at b (suc (length rs)) ≡ r) s
+      (record_at-here (suc (length rs)) (h ++ encoded rs) z (length-append h (encoded rs) ∙ omega (arith, length-encoded rs)) g))
+      (subst⁻¹ (λ b. records b (length rs) ≡ rs) (s ∙ t) (records-encoded rs (bytes_of r ++ z) f))
 
 -- ---- a whole journal
 

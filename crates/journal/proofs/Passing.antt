@@ -14,7 +14,7 @@ use Rattle.model.specs.History.{Op, History}
 use Rattle.model.specs.Undo.{Upto, all, more}
 use Rattle.model.proofs.Legal.{NoBlindWrites}
 use Rattle.model.proofs.Repair.{no_blind-ends}
-use Rattle.model.proofs.Opening.{Passes, Passing, step}
+use Rattle.model.proofs.Opening.{Passes, Passing, start, step}
 use Rattle.journal.specs.Journal.{count, items, tx_in, whole}
 use Rattle.journal.specs.Refusals.{short, truncated, bad_head, malformed, wrong_next, terminated, conflicting, blind, mismatched}
 use Rattle.journal.proofs.Checked.{Sound}
@@ -29,6 +29,7 @@ unfolding whole
 no_blind-whole b s = sound-no_blind s (count b) (omega arith)
 
 passing-upto : {r : Op} {p j : History} → Passing j → Upto (r ∷ p) j → Passes p r
+passing-upto start u = elim u [ ]
 passing-upto (step k l) all = l
 passing-upto (step k l) (more i) = passing-upto k i
 
