@@ -127,13 +127,13 @@ pub extern "C" fn journal_undo(
     ensures leaves { UndoLeaves
         (calls.undo (inputs_of journal.now table.old) bad.now status.old
         out.old)
-        (record { surviving = surviving.entry.now; undone = undone.old; aborted = aborted.old }) result
+        (record { surviving = surviving.old; undone = undone.old; aborted = aborted.old }) result
         answer.new table.new status.new out.new
-        (record { surviving = surviving.exit.now; undone = undone.new; aborted = aborted.new }) }
+        (record { surviving = surviving.new; undone = undone.new; aborted = aborted.new }) }
     ensures demands { UndoPromise (inputs_of journal.now table.old) bad.now
         status.old out.old
         (undo_result_in result answer.new table.new status.new out.new
-        (record { surviving = surviving.exit.now; undone = undone.new; aborted = aborted.new })) }
+        (record { surviving = surviving.new; undone = undone.new; aborted = aborted.new })) }
 {
     c_undo::undo(
         journal, table, bad, status, out, surviving, undone, aborted, answer,
