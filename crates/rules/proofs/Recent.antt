@@ -1,7 +1,7 @@
 -- In a history that passes rules 6, 7 and 9, rules 6 to 9 and the standing amounts follow from what one pass keeps: only an item's last
 -- writer and the reads since its last write matter.
 -- Assumes nothing.
-use mathlib.Core.Path.{◌≡◌, refl, sym, ◌∙◌, ap}
+use mathlib.Core.Path.{◌≡◌, refl, sym, ◌∙◌, ap, subst}
 use mathlib.Core.Bool.{Bool, false≢true, true, false, cond, not, ◌&&◌, ◌||◌, and-false}
 use mathlib.Core.List.{[], ◌∷◌}
 use mathlib.Core.Option.{Option, none, some}
@@ -63,7 +63,8 @@ module _ (x v : ℕ) where
       by_cases (eqb x y)
       (λ q. let xy = eqb-true x y q in
       by_cases (eqb v u)
-      (λ w. rw (q, w, eqb-true v u w, xy) (not-false _ g.1))
+      (λ w. rw (q, w)
+      (subst (λ z. any (read_of z x) p ≡ true) (sym (eqb-true v u w)) (subst (λ z. any (read_of u z) p ≡ true) (sym xy) (not-false _ g.1))))
       (λ w. rw (q, w) (not_conflicting-any (access_to x) (read_of v x) p u v (read-of v x) (λ r z. access-to v x r (read-access v x r z)) (rw (← xy) at l.not_conflicting) (neq-sym v u w) e)))
       (λ q. rw q (open-reads p k g.0 e))
   open-reads (commit t u ∷ p) (step k l) g e = open-reads p k g.0 (or-false-right (eqb v u) _ e)
@@ -183,10 +184,11 @@ base-first x (write t u y b a ∷ p) (step k l) {w} e =
     (λ q. let i : some (write t u y b a) ≡ some w = rw q at e in
     let i' : write t u y b a ≡ w = cc in
     let o = open-writes x u p k l.not_terminated in
-    rw (← i', q, eq-eqb u u refl)
+    subst (λ z. base_write (write t u y b a ∷ p) x ≡ first (write_of (tx_of z) x) (write t u y b a ∷ p)) i'
+    (rw (q, eq-eqb u u refl)
     (by_cases (by_tx (last_write p x) u)
     (λ g. rw g (old (λ v. base-first x p k {w = v}) (last_write p x) refl g ∙ sym (kept (o ∙ g))))
-    (λ g. rw (g, first-none (write_of u x) p (o ∙ g)))))
+    (λ g. rw (g, first-none (write_of u x) p (o ∙ g))))))
     (λ q. rw (q, and-false (eqb (tx_of w) u)) (base-first x p k (rw q at e)))
   where
     old : ((v : Op) → last_write p x ≡ some v → base_write p x ≡ first (write_of (tx_of v) x) p) → (o : Option Op) → last_write p x ≡ o → by_tx o u ≡ true
@@ -229,9 +231,10 @@ current-last d x (commit t u ∷ p) (step k l) {w} e =
 current-last d x (abort t u ∷ p) (step k l) {w} e =
     by_cases (eqb (tx_of w) u)
     (λ q. let wu = eqb-true (tx_of w) u q in
-    rw (q, wu)
+    rw q
+    (subst (λ z. before_in (first (write_of u x) p) (current d p x) ≡ before_in (first (write_of z x) p) (pos 0)) (sym wu)
     (abort-self u x p (current d p x)
-    (open-writes x u p k l.not_terminated ∙ (ap (λ o. by_tx o u) e ∙ eq-eqb u (tx_of w) (sym wu)))))
+    (open-writes x u p k l.not_terminated ∙ (ap (λ o. by_tx o u) e ∙ eq-eqb u (tx_of w) (sym wu))))))
     (λ q. rw (q, first-none (write_of u x) p (open-writes x u p k l.not_terminated ∙ (ap (λ o. by_tx o u) e ∙ neq-sym (tx_of w) u q)))
     (current-last d x p k e))
 current-last d x (other t u ∷ p) (step k l) e = current-last d x p k e
