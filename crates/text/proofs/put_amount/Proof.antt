@@ -1,9 +1,0 @@
--- `text::put_amount` meets its contract: the number behind the word.
--- Assumes nothing.
-use borrow.Author.Rules.{rules}
-use Rattle.text.proofs.PutsLaws.{fits-first, fits_last, put_last}
-use Rattle.text.proofs.put_amount.Statement.{statement}
-use Rattle.text.proofs.put_amount.Tie as tie
-
-pub put_amount_spec : {M : Type 1} → statement M
-put_amount_spec = tie.close (tie.spec (λ c κs. search fits-first) (λ c κs. search fits_last) (search rules) (λ c. search put_last))

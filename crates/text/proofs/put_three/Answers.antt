@@ -1,0 +1,12 @@
+-- The first number, then the rest of the line.
+use Rattle.text.proofs.PutsLaws.{fits-first, fits-rest, put_rest}
+use Rattle.text.proofs.put_three.Goals as goal
+
+pub put_number-a-requires : goal.put_number-a-requires
+put_number-a-requires c = search fits-first
+
+pub put_two-requires : goal.put_two-requires
+put_two-requires c = search fits-rest
+
+pub returns : goal.returns
+returns c = search put_rest
