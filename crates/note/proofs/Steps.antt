@@ -1,17 +1,17 @@
 -- The working arrays after one operation more: those that it changes.
 -- Assumes nothing.
-use mathlib.Core.Path.{◌≡◌, refl}
+use mathlib.Core.Path.{◌≡◌, refl, ap, ◌∙◌}
 use mathlib.Core.Bool.{true, false}
 use mathlib.Core.List.{◌∷◌}
-use mathlib.Core.Option.{none, some}
+use mathlib.Core.Option.{Option, none, some}
 use Prim.Native.Nat.{ℕ}
 use lib.Dec.{eqb}
 use lib.ListN.{set}
 use borrow.Author.Tests.{eqb-true, eq-eqb}
-use Rattle.lists.specs.Search.{first}
+use Rattle.lists.specs.Search.{first, or_else}
 use Rattle.lists.proofs.BoolLaws.{by_cases}
 use Rattle.lists.proofs.TablesLaws.{by-index-same, by-index-set}
-use Rattle.model.specs.History.{Op, History, Amount, Tag, read, write, commit, abort, tx_of, tag_of, of_tx}
+use Rattle.model.specs.History.{Op, History, Amount, Tag, read, write, commit, abort, tx_of, tag_of, of_tx, tag_in}
 use Rattle.arrays.specs.Recent.{by_tx, last_write}
 use Rattle.arrays.specs.Arrays.{ends_of, firsts_of, writes_of, bases_of, reads_of}
 use Rattle.arrays.proofs.ArraysLaws.{ends-array, firsts-array, writes-array, bases-array, reads-array}
@@ -47,7 +47,12 @@ pub firsts-set : (p : History) (r : Op) → first (of_tx (tx_of r)) p ≡ none �
 firsts-set p r e =
     by-index-set (tx_of r) (tag_of r) 0 (firsts-array p) (firsts-array (r ∷ p)) (rw (eq-eqb (tx_of r) (tx_of r) refl, e)) (λ j q. rw q)
 
+-- an operation later than another changes no first
+or_else-some : (o : Option Op) (d : Option Op) {w : Op} → o ≡ some w → tag_in (or_else o d) ≡ tag_in o
+or_else-some none d e = cc
+or_else-some (some v) d e = refl
+
 pub firsts_same : (p : History) (r : Op) {w : Op} → first (of_tx (tx_of r)) p ≡ some w → firsts_of p ≡ firsts_of (r ∷ p)
 firsts_same p r e =
     by-index-same 0 (firsts-array p) (firsts-array (r ∷ p))
-    (λ j. by_cases (eqb j (tx_of r)) (λ q. let z = eqb-true j (tx_of r) q in rw (q, z, e)) (λ q. rw q))
+    (λ j. by_cases (eqb j (tx_of r)) (λ q. let z = eqb-true j (tx_of r) q in rw q (or_else-some (first (of_tx j) p) (some r) (ap (λ t. first (of_tx t) p) z ∙ e))) (λ q. rw q))
