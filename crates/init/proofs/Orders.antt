@@ -36,6 +36,25 @@ pub many-items : (b : List ℕ) (n : ℕ) → 20 ≤ length b → 1 ≤ n → 10
 unfolding bad_items
 many-items b n h j k = refuses b n (past-short b n h ∙ decide-yes 2 0 (simp (le-leb 1 n j, lt-leb n 1024 k)))
 
+-- the same, clause by clause
+pub answer_truncated : (b : List ℕ) (n : ℕ) → length b < 20 → refused 1 0 ≡ (start b n).answer
+answer_truncated b n h = (start-truncated b n h).0
+
+pub journal_truncated : (b : List ℕ) (n : ℕ) → length b < 20 → b ≡ (start b n).journal
+journal_truncated b n h = (start-truncated b n h).1
+
+pub answer_no_items : (b : List ℕ) (n : ℕ) → 20 ≤ length b → n < 1 → refused 2 0 ≡ (start b n).answer
+answer_no_items b n h k = (no_items b n h k).0
+
+pub journal_no_items : (b : List ℕ) (n : ℕ) → 20 ≤ length b → n < 1 → b ≡ (start b n).journal
+journal_no_items b n h k = (no_items b n h k).1
+
+pub answer_many_items : (b : List ℕ) (n : ℕ) → 20 ≤ length b → 1 ≤ n → 1024 < n → refused 2 0 ≡ (start b n).answer
+answer_many_items b n h j k = (many-items b n h j k).0
+
+pub journal_many_items : (b : List ℕ) (n : ℕ) → 20 ≤ length b → 1 ≤ n → 1024 < n → b ≡ (start b n).journal
+journal_many_items b n h j k = (many-items b n h j k).1
+
 -- the head is written into the first 20 bytes
 pub started : (b : List ℕ) (n : ℕ) {v : List ℕ} → 20 ≤ length b → 1 ≤ n → n ≤ 1024 → v ≡ bytes_of (head_with 0 n) → (accepted tt ≡ (start b n).answer) × (put_mid 0 20 b v ≡ (start b n).journal)
 unfolding start bad_items
