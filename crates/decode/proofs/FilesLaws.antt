@@ -76,10 +76,10 @@ length-transactions file = ap length (transactions-each file) ∙ length-tabulat
 -- ---- what is read of a file
 
 -- all of a short file, and 64,020 bytes of any other
-pub read_of-short : (file : List ℕ) → length file ≤ 64020 → take (length file) file ≡ read_part file
+pub read_of_short : (file : List ℕ) → length file ≤ 64020 → take (length file) file ≡ read_part file
 unfolding read_part
-read_of-short file h = take-length file ∙ sym (take_all 64020 file h)
+read_of_short file h = take-length file ∙ sym (take_all 64020 file h)
 
-pub read_part-long : (file : List ℕ) → take 64020 file ≡ read_part file
+pub read_part_long : (file : List ℕ) → take 64020 file ≡ read_part file
 unfolding read_part
-read_part-long file = refl
+read_part_long file = refl

@@ -13,6 +13,10 @@ use format::{Lsn, MAX_JOURNAL_BYTES, RECORD_BYTES};
 pub const FILE_BYTES: usize = MAX_JOURNAL_BYTES;
 
 // How many bytes of a file are read: the first 64,020.
+#[tactic(auto, using(
+    crate::proofs::FilesLaws::read_of_short,
+    crate::proofs::FilesLaws::read_part_long
+))]
 pub fn read_of(file: &[u8]) -> usize
     ensures { (result ≤ length file.now) × (result ≤ max_journal_bytes)
         × (take result file.now ≡ read_part file.now) }
@@ -55,6 +59,7 @@ pub fn read_transactions(file: &[u8], bad: &mut [u16]) -> usize
 }
 
 // The record count in a journal's head; 0, if it has none.
+#[tactic(auto, unfolding(journal::specs::Journal::count))]
 pub fn count_in(journal: &[u8]) -> u64
     ensures { record_bytes ≤ length journal.now → result ≡ count journal.now }
 {
