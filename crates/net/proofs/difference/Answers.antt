@@ -1,5 +1,4 @@
 -- `net::difference` meets its contract: 64 bits hold the difference.
--- Assumes nothing.
 use mathlib.Core.Path.{◌≡◌, refl}
 use Prim.Native.Nat.{◌≤◌}
 use native.Mathlib.Omega.{arith}
@@ -9,8 +8,7 @@ use mir.ValLaws.{to_z-of_z}
 use lib.IntN.{ℤ, nat_abs, ◌-ℤ◌}
 use Rattle.format.proofs.Twos.{widened, read_back}
 use Rattle.net.proofs.Size.{mag-size, size-difference}
-use Rattle.net.proofs.difference.Statement.{statement}
-use Rattle.net.proofs.difference.Tie as tie
+use Rattle.net.proofs.difference.Goals as goal
 
 module _ (a b : ℤ) (f : SFits w32 a) (g : SFits w32 b) where
   gap : SFits w64 (a -ℤ b)
@@ -24,5 +22,14 @@ module _ (a b : ℤ) (f : SFits w32 a) (g : SFits w32 b) where
       × (nat_abs (to_z w64 (of_z w64 (to_z w64 (of_z w64 (to_z w32 (of_z w32 a))) -ℤ to_z w64 (of_z w64 (to_z w32 (of_z w32 b)))))) ≤ 4294967295)
   gap_is = rw (read_back a f, read_back b g, to_z-of_z w64 (a -ℤ b) gap) (refl, size-difference a b f.sfits g.sfits)
 
-pub difference_spec : {M : Type 1} → statement M
-difference_spec = tie.close (tie.spec (λ c. search widened) (λ c. search widened) (λ c. search gap-fits) (λ c. gap_is _ _ c.ranges.after c.ranges.before))
+pub overflow_cast-result : goal.overflow_cast-result
+overflow_cast-result c = search widened
+
+pub overflow_cast-result-2 : goal.overflow_cast-result-2
+overflow_cast-result-2 c = search widened
+
+pub overflow_sub-result : goal.overflow_sub-result
+overflow_sub-result c = search gap-fits
+
+pub returns : goal.returns
+returns c = gap_is _ _ c.ranges.after c.ranges.before
