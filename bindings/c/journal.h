@@ -2,10 +2,10 @@
  * The depot journal (document 01): start, post, check, slip and take-back, and the count of a stored journal, as a proved static
  * library.
  *
- * Link target/staticlib/libcapi.a, which `rt staticlib capi` writes: x86-64 Linux, position independent, one object. It needs
+ * Link crates/capi/out/libcapi.a, which `rt lib` writes in crates/capi: x86-64 Linux, position independent, one object. It needs
  * memcpy and memset of the C library and nothing else: no flag, no run-time library, no initialisation.
  *
- *     cc -std=c99 -I bindings/c program.c target/staticlib/libcapi.a
+ *     cc -std=c99 -I bindings/c program.c crates/capi/out/libcapi.a
  *
  * Words. A transaction is document 01's "sale", an LSN its "record number", abort its "rollback", active its "open"; append is
  * "post", chain is "slip", undo is "take-back"; surviving is "kept", undone "taken back", aborted "dropped"; status is "marks",

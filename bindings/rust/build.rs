@@ -1,5 +1,5 @@
-//! Links the archive that `rt staticlib capi` writes: the file that the environment's JOURNAL_ARCHIVE
-//! names, or target/staticlib/libcapi.a of the repository.
+//! Links the archive that `rt lib` writes in crates/capi: the file that the environment's JOURNAL_ARCHIVE
+//! names, or crates/capi/out/libcapi.a of the repository.
 
 use std::env;
 use std::fs;
@@ -13,7 +13,7 @@ fn main() {
         None => {
             let crate_folder = PathBuf::from(env::var_os("CARGO_MANIFEST_DIR").unwrap());
             let root = crate_folder.ancestors().nth(2).unwrap();
-            root.join("target/staticlib/libcapi.a")
+            root.join("crates/capi/out/libcapi.a")
         }
     };
     println!("cargo:rerun-if-changed={}", archive.display());
@@ -30,9 +30,7 @@ fn main() {
 fn missing(archive: &Path, error: &std::io::Error) -> ! {
     let path = archive.display();
     eprintln!("the archive {path} cannot be read: {error}");
-    eprintln!(
-        "'rt staticlib capi' in the root of the repository writes target/staticlib/libcapi.a;"
-    );
+    eprintln!("'rt lib' in crates/capi of the repository writes crates/capi/out/libcapi.a;");
     eprintln!("JOURNAL_ARCHIVE in the environment names another archive, by its full path");
     exit(1);
 }

@@ -62,9 +62,13 @@ const UP: f64 = 84.0;
 /// Each crate with those that it may use; libraries of the kit are left out.
 fn read(text: &str) -> BTreeMap<&str, BTreeSet<&str>> {
     let lines = text.lines().filter(|line| !line.starts_with('#'));
-    let pairs = lines.filter_map(|line| line.split_once(':'));
+    // Behind the name may stand `staticlib`.
+    let pairs = lines.filter_map(|line| {
+        let (head, used) = line.split_once(':')?;
+        Some((head.split_whitespace().next()?, used))
+    });
     let mut uses: BTreeMap<&str, BTreeSet<&str>> = pairs
-        .map(|(name, used)| (name.trim(), used.split_whitespace().collect()))
+        .map(|(name, used)| (name, used.split_whitespace().collect()))
         .collect();
     let names: BTreeSet<&str> = uses.keys().copied().collect();
     for used in uses.values_mut() {

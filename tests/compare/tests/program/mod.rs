@@ -4,7 +4,10 @@ use std::path::{Path, PathBuf};
 use std::process::{Command, Output};
 use std::sync::atomic::{AtomicU64, Ordering};
 
-const PROGRAM: &str = concat!(env!("CARGO_MANIFEST_DIR"), "/../../target/bin/takeback");
+const PROGRAM: &str = concat!(
+    env!("CARGO_MANIFEST_DIR"),
+    "/../../crates/takeback/out/takeback"
+);
 pub const NAMES: [&str; 3] = ["journal.bin", "table.bin", "bad.bin"];
 
 /// A folder that is there while this lives.
@@ -34,7 +37,7 @@ pub fn run(fill: impl FnOnce(&Path)) -> Output {
     let program = Path::new(PROGRAM);
     assert!(
         program.exists(),
-        "not built yet: 'rt check takeback' builds it"
+        "not built yet: 'rt run' in crates/takeback builds it"
     );
     let mut command = Command::new(program);
     command.current_dir(&folder.0).output().unwrap()
