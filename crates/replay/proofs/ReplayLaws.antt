@@ -1,6 +1,7 @@
 -- The table left: what one record does to it, and the table after n records.
 -- Assumes nothing.
-use mathlib.Core.Path.{◌≡◌, refl, sym, ◌∙◌, ap}
+use mathlib.Core.Path.{◌≡◌, refl, sym, ◌∙◌, ap, subst}
+use mathlib.Core.Option.{some}
 use mathlib.Core.Bool.{Bool, true, false, cond, not}
 use mathlib.Core.List.{List, [], ◌∷◌}
 use Prim.Native.Nat.{ℕ, zero, suc, ◌+◌, ◌≤◌, ◌<◌}
@@ -13,14 +14,14 @@ use mir.Syntax.{w32}
 use mir.Val.{to_z, of_z, SFits}
 use mir.ValLaws.{to_z-of_z}
 use borrow.Author.Tests.{eqb-true, eq-eqb, ne_eqb}
-use Rattle.lists.specs.Search.{any}
+use Rattle.lists.specs.Search.{any, first}
 use Rattle.lists.specs.Tables.{stepped, coded}
 use Rattle.lists.proofs.BoolLaws.{by_cases, or-false-left, or-false-right}
 use Rattle.lists.proofs.SearchLaws.{first-none, first-old}
 use Rattle.lists.proofs.TablesLaws.{tabulate-ext, tabulate-get_or, ByIndex, by_index, by-index-all, by-index-set, stepped_start, stepped-suc, stepped-turn}
 use Rattle.format.specs.declared.Record.{Record}
 use Rattle.format.specs.Layout.{record_at}
-use Rattle.model.specs.History.{Op, History, Amount, read, write, commit, abort, other, write_to, initial}
+use Rattle.model.specs.History.{Op, History, Amount, read, write, commit, abort, other, write_to, before_in, initial}
 use Rattle.model.specs.Undo.{replayed}
 use Rattle.journal.specs.Inputs.{inputs_of}
 use Rattle.journal.specs.Journal.{count, tx_in, op_of, history, whole, amount_at}
@@ -74,6 +75,15 @@ module _ (i : ℕ) (r q : Record) (h : r ≡ q) (fates seen : List ℕ) (t : Lis
   unfolding seen_after
   seen_other k = rw (← h) (by-access (λ o. seen ≡ seen_after o seen) i r (λ e. refl) (λ e. absurd (k e)) refl refl refl)
 
+-- ---- the oldest that passes, of a list with one element more
+
+module _ {A : Type 0} (f : A → Bool) (r : A) (p : List A) where
+  first-skip : f r ≡ false → first f (r ∷ p) ≡ first f p
+  first-skip e = rw e
+
+  first-new : f r ≡ true → any f p ≡ false → first f (r ∷ p) ≡ some r
+  first-new e n = rw (e, first-none f p n)
+
 -- ---- after n records
 
 seen-array : (p : History) → ByIndex (λ x. cond (any (write_to x) p) 1 0) 1024 (seen_of p)
@@ -116,16 +126,20 @@ module _ (k : ℕ → Bool) (l : List Amount) where
   -- a write to another item changes nothing
   amount-apart : (t s x : ℕ) (b a : Amount) (p : History) (j : ℕ) → eqb j x ≡ false → amount (write t s x b a ∷ p) j ≡ amount p j
   unfolding amount
-  amount-apart t s x b a p j q = rw q
+  amount-apart t s x b a p j q =
+      ap (λ o. replayed k (before_in o (amount_at l j)) (write t s x b a ∷ p) j) (first-skip (write_to j) (write t s x b a) p q) ∙ rw q
 
   -- the first write opens the item at its before image
   amount-first : (t s x : ℕ) (b a : Amount) (p : History) → any (write_to x) p ≡ false → amount (write t s x b a ∷ p) x ≡ cond (k s) a b
   unfolding amount
-  amount-first t s x b a p n = rw (eq-eqb x x refl, first-none (write_to x) p n, replayed-unwritten b p x n)
+  amount-first t s x b a p n =
+      ap (λ o. replayed k (before_in o (amount_at l x)) (write t s x b a ∷ p) x) (first-new (write_to x) (write t s x b a) p (eq-eqb x x refl) n)
+      ∙ rw (eq-eqb x x refl, replayed-unwritten b p x n)
 
   amount-later : (t s x : ℕ) (b a : Amount) (p : History) → any (write_to x) p ≡ true → amount (write t s x b a ∷ p) x ≡ cond (k s) a (amount p x)
   unfolding amount
-  amount-later t s x b a p n = rw (first-old (write_to x) (write t s x b a) p n, eq-eqb x x refl)
+  amount-later t s x b a p n =
+      ap (λ o. replayed k (before_in o (amount_at l x)) (write t s x b a ∷ p) x) (first-old (write_to x) (write t s x b a) p n) ∙ rw (eq-eqb x x refl)
 
 module _ (fates : List ℕ) (l : List Amount) where
   seen_at : (p : History) (x : ℕ) → x < 1024 → coded 0 (seen_of p) x ≡ not (any (write_to x) p)
@@ -143,7 +157,7 @@ module _ (fates : List ℕ) (l : List Amount) where
   leave p t s x b a e =
       tabulate-ext (amount (coded 1 fates) l p) (amount (coded 1 fates) l (write t s x b a ∷ p)) 0 0 (length l)
       (λ j h. by_cases (eqb (0 + j) x)
-      (λ q. rw (eqb-true (0 + j) x q) (sym e))
+      (λ q. subst (λ y. amount (coded 1 fates) l p y ≡ amount (coded 1 fates) l (write t s x b a ∷ p) y) (sym (eqb-true (0 + j) x q)) (sym e))
       (λ q. sym (amount-apart (coded 1 fates) l t s x b a p (0 + j) q)))
 
   left-write : (p : History) (t s x : ℕ) (b a : Amount) → x < 1024
