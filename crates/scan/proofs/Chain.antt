@@ -1,6 +1,6 @@
 -- Next, worked out from the last record to the first with one slot a transaction; and the lowest record whose next is wrong.
 -- Assumes nothing.
-use mathlib.Core.Path.{◌≡◌, refl, sym, ◌∙◌, ap}
+use mathlib.Core.Path.{◌≡◌, refl, sym, ◌∙◌, ap, subst}
 use mathlib.Core.Bool.{Bool, true, false, cond, ◌&&◌, and-false}
 use mathlib.Core.List.{List}
 use mathlib.Core.Option.{Option, none, some}
@@ -34,14 +34,17 @@ first-later : (b : List ℕ) (n j s : ℕ) → j < n
 unfolding history
 first-later b zero j s h = absurd (omega arith)
 first-later b (suc n) j s h =
-    rw (tag_of-op_of (suc n) (record_at b (suc n)), tx_of-op_of (suc n) (record_at b (suc n)), lt-ltb j (suc n) h)
-    (by_cases (eqb j n)
-    (λ e. let z = eqb-true j n e in
-    rw (z, none-later b n n s (omega arith), none-later b n (suc n) s (omega arith), le-ltb (suc n) (suc n) (omega arith))
-    (last (eqb s (tx_in (record_at b (suc n)))) (op_of (suc n) (record_at b (suc n)))))
+    by_cases (eqb j n)
+    (λ e.
+    subst
+    (λ k. first (later_of k s) (history b (suc n))
+    ≡ cond (eqb s (tx_in (record_at b (suc k)))) (some (op_of (suc k) (record_at b (suc k)))) (first (later_of (suc k) s) (history b (suc n))))
+    (sym (eqb-true j n e))
+    (rw (tag_of-op_of (suc n) (record_at b (suc n)), tx_of-op_of (suc n) (record_at b (suc n)), lt-ltb n (suc n) (omega arith), none-later b n n s (omega arith), none-later b n (suc n) s (omega arith), le-ltb (suc n) (suc n) (omega arith))
+    (last (eqb s (tx_in (record_at b (suc n)))) (op_of (suc n) (record_at b (suc n))))))
     (λ e. let d = eqb-false j n e in
-    rw (first-later b n j s (omega arith), lt-ltb (suc j) (suc n) (omega arith))
-    (both (eqb s (tx_in (record_at b (suc n)))) (eqb s (tx_in (record_at b (suc j)))) (first (later_of (suc j) s) (history b n)) (op_of (suc n) (record_at b (suc n))) (op_of (suc j) (record_at b (suc j))))))
+    rw (tag_of-op_of (suc n) (record_at b (suc n)), tx_of-op_of (suc n) (record_at b (suc n)), lt-ltb j (suc n) h, first-later b n j s (omega arith), lt-ltb (suc j) (suc n) (omega arith))
+    (both (eqb s (tx_in (record_at b (suc n)))) (eqb s (tx_in (record_at b (suc j)))) (first (later_of (suc j) s) (history b n)) (op_of (suc n) (record_at b (suc n))) (op_of (suc j) (record_at b (suc j)))))
   where
     last : (c : Bool) (o : Op) → cond (c && true) (or_else none (some o)) none ≡ cond c (some o) (cond (c && false) (or_else none (some o)) none)
     last true o = refl
