@@ -1,12 +1,10 @@
 -- A transaction's last record, and the journal with one record more, store by store.
 -- Assumes nothing.
 use mathlib.Core.Path.{◌≡◌, refl, sym, ◌∙◌}
-use mathlib.Core.Bool.{false, cond}
+use mathlib.Core.Bool.{false}
 use mathlib.Core.List.{List}
-use Prim.Native.Nat.{ℕ, suc, ◌+◌, ◌-◌, ◌*◌, ◌<◌, ◌≤◌}
+use Prim.Native.Nat.{ℕ, suc, ◌+◌, ◌-◌, ◌*◌, ◌<◌}
 use native.Mathlib.Omega.{arith}
-use native.Mathlib.Numerals.{add-one}
-use lib.Dec.{eqb}
 use lib.ListN.{length, set}
 use borrow.Author.Tests.{eq-eqb, ne_eqb}
 use borrow.Rule.Slice.PartMut.{put_mid}
@@ -15,7 +13,6 @@ use mir.Val.{to_z, of_z, SFits}
 use mir.ValLaws.{to_z-of_z}
 use Rattle.lists.specs.Search.{latest}
 use Rattle.lists.specs.Tables.{store}
-use Rattle.lists.proofs.BoolLaws.{by_cases}
 use Rattle.lists.proofs.TablesLaws.{part-stored}
 use Rattle.format.specs.declared.Record.{Record}
 use Rattle.format.specs.Bytes.{bytes}
