@@ -1,6 +1,6 @@
 -- The chain walked is the transaction's records, in order.
 -- Assumes nothing.
-use mathlib.Core.Path.{◌≡◌, refl, sym, ◌∙◌, ap}
+use mathlib.Core.Path.{◌≡◌, refl, sym, ◌∙◌, ap, subst⁻¹}
 use mathlib.Core.Bool.{Bool, true, false, ◌&&◌}
 use mathlib.Core.List.{List, [], ◌∷◌}
 use mathlib.Core.Option.{Option, none, some}
@@ -9,7 +9,7 @@ use native.Mathlib.Omega.{arith}
 use lib.Dec.{eqb, ltb}
 use lib.ListN.{length, length-append}
 use borrow.Author.Tests.{eqb-true, lt-ltb, le-ltb, ltb-true}
-use Rattle.lists.specs.Search.{any, keep, first}
+use Rattle.lists.specs.Search.{any, keep, first, or_else}
 use Rattle.lists.proofs.BoolLaws.{by_cases, clash, and_left, and_right, or-false-left, or-false-right, or_cases}
 use Rattle.lists.proofs.SearchLaws.{first-none, first_some, first-old}
 use Rattle.format.specs.Layout.{record_at}
@@ -50,13 +50,14 @@ numbers-first f (r ∷ p) n e =
     by_cases (any f p)
     (λ i. let ih = numbers-first f p n.0 i in
     let l : tag_in (first f p) < tag_of r = omega (arith, first-tag f p n.0, n.1) in
-    rw (first-old f r p i)
+    subst⁻¹ (λ o. lsns_of (keep f (r ∷ p)) ≡ tag_in o ∷ lsns_of (keep (behind f (tag_in o)) (r ∷ p))) (first-old f r p i)
     (by_cases (f r)
     (λ q. rw (q, lt-ltb (tag_in (first f p)) (tag_of r) l, ih))
     (λ q. rw (q, ih))))
     (λ i. let q : f r ≡ true = or_cases (f r) (any f p) e (λ h. h) (λ h. clash h i) in
     let g : ltb (tag_of r) (tag_of r) ≡ false = le-ltb (tag_of r) (tag_of r) (omega arith) in
-    rw (q, first-none f p i, g, keep-none f p i, none-behind f (tag_of r) p i))
+    let o : first f (r ∷ p) ≡ some r = rw q (ap (λ o. or_else o (some r)) (first-none f p i)) in
+    subst⁻¹ (λ o. lsns_of (keep f (r ∷ p)) ≡ tag_in o ∷ lsns_of (keep (behind f (tag_in o)) (r ∷ p))) o (rw (q, g, keep-none f p i, none-behind f (tag_of r) p i)))
 
 length-numbers : (p : History) → length (lsns_of p) ≡ length p
 unfolding lsns_of
