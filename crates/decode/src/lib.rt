@@ -13,10 +13,7 @@ use format::{Lsn, MAX_JOURNAL_BYTES, RECORD_BYTES};
 pub const FILE_BYTES: usize = MAX_JOURNAL_BYTES;
 
 // How many bytes of a file are read: the first 64,020.
-#[tactic(auto, using(
-    crate::proofs::FilesLaws::read_of_short,
-    crate::proofs::FilesLaws::read_part_long
-))]
+#[tactic(auto, using(crate::proofs::FilesLaws::read_of_short, crate::proofs::FilesLaws::read_part_long))]
 pub fn read_of(file: &[u8]) -> usize
     ensures { (result ≤ length file.now) × (result ≤ max_journal_bytes)
         × (take result file.now ≡ read_part file.now) }

@@ -17,14 +17,7 @@ pub enum Init {
 
 // Writes the head of a journal with no records and this many items (document 01, start). Refused, with nothing written: 1 for a
 // buffer of fewer than 20 bytes, then 2 unless there are 1 to 1,024 items.
-#[tactic(auto, using(
-    crate::proofs::Orders::answer_truncated,
-    crate::proofs::Orders::journal_truncated,
-    crate::proofs::Orders::answer_no_items,
-    crate::proofs::Orders::journal_no_items,
-    crate::proofs::Orders::answer_many_items,
-    crate::proofs::Orders::journal_many_items
-))]
+#[tactic(auto, using(crate::proofs::Orders::answer_truncated, crate::proofs::Orders::journal_truncated, crate::proofs::Orders::answer_no_items, crate::proofs::Orders::journal_no_items, crate::proofs::Orders::answer_many_items, crate::proofs::Orders::journal_many_items))]
 pub fn start(journal: &mut [u8], items: u32) -> Init
     ensures answer { answer_of result ≡ (calls.start journal.old items).answer }
     ensures journal { journal.new ≡ (calls.start journal.old items).journal }

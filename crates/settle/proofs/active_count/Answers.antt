@@ -16,8 +16,8 @@ loop-s-preserved c =
     let i = l.invariant in
     let r = c.is_active in
     elim c.if-is_active.branch [
-      then-is_active w ↦ (omega arith, omega arith, w.count-is ∙ count_yes f l.s l.count i.0 i.2 r.result r.ensures w.if-is_active.true, omega arith)
-    | else-is_active w ↦ (omega arith, omega arith, w.count-is ∙ count_no f l.s l.count i.0 i.2 r.result r.ensures w.if-is_active.false, omega arith)
+      | then-is_active w ↦ (omega arith, omega arith, w.count-is ∙ count_yes f l.s l.count i.0 i.2 r.result r.ensures w.if-is_active.true, omega arith)
+      | else-is_active w ↦ (omega arith, omega arith, w.count-is ∙ count_no f l.s l.count i.0 i.2 r.result r.ensures w.if-is_active.false, omega arith)
     ]
 
 pub returns : goal.returns
