@@ -1,6 +1,6 @@
 // Take-back on the files of the current folder, with its report on standard output (document 01, "The program's day").
 #![tactic(auto)]
 
-fn main() {
-    files::print_report(b".");
+fn main(rt: HostRuntime) {
+    files::print_report(&rt, b".");
 }
