@@ -183,9 +183,9 @@ module _ (o : Order) (b ends : List ℕ) (h : Headed) where
 -- ---- 13, then 12
 
 module _ (ends bad status : List ℕ) where
-  pub admit-status : (length status ≡ 1025 → ⊥) → some (record { number = 13; place = 0 }) ≡ decide (admit_order ends bad status)
+  pub admit_status : (length status ≡ 1025 → ⊥) → some (record { number = 13; place = 0 }) ≡ decide (admit_order ends bad status)
   unfolding admit_order status_order wrong_status
-  admit-status h = sym (decide-turn-some (status_order status) _ (decide-yes 13 0 (ap not (ne_eqb (length status) 1025 h))))
+  admit_status h = sym (decide-turn-some (status_order status) _ (decide-yes 13 0 (ap not (ne_eqb (length status) 1025 h))))
 
   pub admit-known : (v : Verdict) → length status ≡ 1025 → verdict_of v ≡ decide (known_order (unknown_in ends) bad) → verdict_of v ≡ decide (admit_order ends bad status)
   unfolding admit_order status_order wrong_status

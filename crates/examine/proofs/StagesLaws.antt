@@ -43,7 +43,7 @@ module _ (ends bad : List ℕ) where
     known-passed z =
         tried-passed 12 (unknown_at ends bad) k (length bad) d e h (ap not (eq-eqb (get_or ends (get_or bad k 0) 0) 1 (sym b ∙ z)))
 
-    pub known-refused : (end ≡ 1 → ⊥) → some (record { number = 12; place = k }) ≡ d
+    pub known_refused : (end ≡ 1 → ⊥) → some (record { number = 12; place = k }) ≡ d
     unfolding unknown_in coded
-    known-refused z =
+    known_refused z =
         tried-refused 12 (unknown_at ends bad) k (length bad) d e h (ap not (ne_eqb (get_or ends (get_or bad k 0) 0) 1 (λ q. z (b ∙ q))))

@@ -41,6 +41,7 @@ fn finished(ends: &[u8], firsts: &[u32]) -> Verdict
 }
 
 // Refusal 12: the lowest position whose number is no committed transaction's.
+#[tactic(auto, using(crate::proofs::StagesLaws::known_refused))]
 fn known(ends: &[u8], bad: &[u16]) -> Verdict
     ensures { verdict_of result ≡ decide (known_order (unknown_in ends.now) bad.now) }
 {
@@ -57,6 +58,7 @@ fn known(ends: &[u8], bad: &[u16]) -> Verdict
 }
 
 // Refusal 13, then 12.
+#[tactic(auto, using(crate::proofs::Examining::admit_status))]
 pub fn admit(ends: &[u8], bad: &[u16], status: &[u8]) -> Verdict
     ensures { verdict_of result ≡ decide (admit_order ends.now bad.now status.now) }
 {
