@@ -93,9 +93,6 @@ pub record Undoing (b : List ℕ) (n s : ℕ) (t₀ : List Amount) (i : ℕ) (t 
   pub size : length t ≡ length t₀
   pub same : applied_table (history b i) (abort (n + 1) s) t ≡ applied_table (history b n) (abort (n + 1) s) t₀
 
-pub undoing-start : (b : List ℕ) (n s : ℕ) (t₀ : List Amount) → Undoing b n s t₀ n t₀
-undoing-start b n s t₀ = record { low = omega arith; size = refl; same = refl }
-
 module _ (b : List ℕ) (n s : ℕ) (t₀ : List Amount) (i : ℕ) (t : List Amount) (u : Undoing b n s t₀ i t) where
   pub undoing-end : i ≡ 0 → t ≡ applied_table (history b n) (abort (n + 1) s) t₀
   undoing-end z =
