@@ -32,6 +32,10 @@ pub undone_in-no : (status : List ℕ) (s : ℕ) → (get_or status s 0 ≡ 2 �
 unfolding undone_in
 undone_in-no status s e = rw (ne_eqb _ _ e)
 
+-- room for the line, where there is one
+pub marked_room : (status : List ℕ) (s at : ℕ) (l : List ℕ) → get_or status s 0 ≡ 2 → Fits at (undone_in status s) l → Fits at (undone_line s) l
+marked_room status s at l e f = rw (undone_in-yes status s e) at f
+
 -- amounts are the same if their bits are
 same_bits : (a b : Amount) → SFits w32 a → SFits w32 b → bits a ≡ bits b → same_amount a b ≡ true
 same_bits a b f g e = let h : a ≡ b = sym (amount-bits f) ∙ ap amount e ∙ amount-bits g in rw h (same_refl b)
