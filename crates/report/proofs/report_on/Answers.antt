@@ -14,7 +14,7 @@ put_answer-requires c =
       a.auto.status ∙ c.requires.1,
       ap length (sym c.requires.0) ∙ sym a.auto.table,
       reported-fits _ _ _ _ {u = u} p _ c.count_in-n.ensures _
-      (printed-sum _ _ _ _ {u = u} p c.net_in-change.type_inv c.net_in-change.ensures.0 c.by_sign-sum.ensures) c.requires.2,
+          (printed-sum _ _ _ _ {u = u} p c.net_in-change.type_inv c.net_in-change.ensures.0 c.by_sign-sum.ensures) c.requires.2,
       c.requires.3,
     )
 
