@@ -70,6 +70,9 @@ module _ (b : List ℕ) (i : ℕ) (c : Counts) (e : record_counts_of c ≡ count
   pub counting-step : (kind : ℕ) (d : Counts) → kind ≡ (record_at b (i + 1)).kind → record_counts_of d ≡ raised kind (record_counts_of c) → record_counts_of d ≡ counts_by_kind (history b (i + 1))
   counting-step kind d k q = q ∙ rw (k, e, add-one, history-suc b i) (sym (counts_by_kind-extended (suc i) (record_at b (suc i)) (history b i)))
 
+pub counting-end : (b : List ℕ) (n i : ℕ) (c : Counts) → i ≤ n → n ≤ i → record_counts_of c ≡ counts_by_kind (history b i) → record_counts_of c ≡ counts_by_kind (history b n)
+counting-end b n i c l h e = let q : n ≡ i = omega arith in rw q e
+
 -- ---- the head, then the records
 
 module _ (b : List ℕ) (h : Headed) (q : header_of h ≡ answered (decide (open_order b)) (size_of b)) where

@@ -6,7 +6,7 @@ use mathlib.Core.List.{List}
 use Prim.Native.Nat.{ℕ, ◌+◌, ◌*◌, ◌<◌, ◌≤◌}
 use lib.Dec.{eqb, ltb, leb}
 use lib.ListN.{length}
-use borrow.Author.Tests.{eqb-true, leb-true, leb-false, le-leb, lt-leb, le-ltb, lt-ltb}
+use borrow.Author.Tests.{eqb-true, eq-eqb, ne_eqb, leb-true, leb-false, le-leb, lt-leb, le-ltb, lt-ltb}
 use Rattle.lists.proofs.BoolLaws.{by_cases, and_left, and_right, not-neither}
 use Rattle.journal.specs.Journal.{count, history, whole}
 use Rattle.journal.specs.Refusals.{RecordCounts, counts_by_kind, same_counts, wrong_counts, no_room}
@@ -15,6 +15,19 @@ use Rattle.counts.specs.Answers.{record_counts_of, Few}
 use Rattle.counts.proofs.KindCounts.{few}
 
 -- ---- 15: counts compared
+
+module _ (a b : Counts) where
+  pub unlike-reads : (a.reads ≡ b.reads → ⊥) → false ≡ same_counts (record_counts_of a) (record_counts_of b)
+  unlike-reads h = rw (ne_eqb a.reads b.reads h)
+
+  pub unlike-writes : a.reads ≡ b.reads → (a.writes ≡ b.writes → ⊥) → false ≡ same_counts (record_counts_of a) (record_counts_of b)
+  unlike-writes e h = rw (eq-eqb a.reads b.reads e, ne_eqb a.writes b.writes h)
+
+  pub unlike-commits : a.reads ≡ b.reads → a.writes ≡ b.writes → (a.commits ≡ b.commits → ⊥) → false ≡ same_counts (record_counts_of a) (record_counts_of b)
+  unlike-commits e f h = rw (eq-eqb a.reads b.reads e, eq-eqb a.writes b.writes f, ne_eqb a.commits b.commits h)
+
+  pub like-aborts : (h : Bool) → a.reads ≡ b.reads → a.writes ≡ b.writes → a.commits ≡ b.commits → h ≡ eqb a.aborts b.aborts → h ≡ same_counts (record_counts_of a) (record_counts_of b)
+  like-aborts h e f g q = q ∙ rw (eq-eqb a.reads b.reads e, eq-eqb a.writes b.writes f, eq-eqb a.commits b.commits g)
 
 pub agreed : (b : List ℕ) (n : ℕ) (c d : Counts) (h : Bool) → n ≡ count b → record_counts_of d ≡ counts_by_kind (history b n) → h ≡ same_counts (record_counts_of c) (record_counts_of d) → h ≡ not (wrong_counts b (record_counts_of c))
 unfolding wrong_counts whole

@@ -93,7 +93,13 @@ pub record Undoing (b : List ℕ) (n s : ℕ) (t₀ : List Amount) (i : ℕ) (t 
   pub size : length t ≡ length t₀
   pub same : applied_table (history b i) (abort (n + 1) s) t ≡ applied_table (history b n) (abort (n + 1) s) t₀
 
+pub undoing-start : (b : List ℕ) (n s : ℕ) (t₀ : List Amount) → Undoing b n s t₀ n t₀
+undoing-start b n s t₀ = record { low = omega arith; size = refl; same = refl }
+
 module _ (b : List ℕ) (n s : ℕ) (t₀ : List Amount) (i : ℕ) (t : List Amount) (u : Undoing b n s t₀ i t) where
+  pub undoing-same : length t ≡ length t₀
+  undoing-same = u.size
+
   pub undoing-end : i ≡ 0 → t ≡ applied_table (history b n) (abort (n + 1) s) t₀
   undoing-end z =
       table_is (history b i) (abort (n + 1) s) t t refl (λ x h. rw (z, history-zero b)) ∙ u.same

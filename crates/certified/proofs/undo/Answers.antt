@@ -8,5 +8,5 @@ pub returns : goal.returns
 returns c =
     let k =
     undo-certified (inputs_of c.args.journal.now c.args.table.now) c.args.bad.now c.args.status.now c.args.out.now
-    (Bytes-getD _ (λ i. (c.shared_slice_known-1.given i).fits)) (c.undo.ensures.answer, (c.undo.ensures.table, (c.undo.ensures.status, c.undo.ensures.out))) in
+    (Bytes-getD _ (λ i. (c.type_inv.journal i).fits)) (c.undo.ensures.answer, (c.undo.ensures.table, (c.undo.ensures.status, c.undo.ensures.out))) in
     record { result = k.0; demands = k.1 }

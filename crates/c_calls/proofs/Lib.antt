@@ -1,0 +1,4 @@
+pub mod StartLaws
+pub mod CheckLaws
+pub mod ChainLaws
+pub mod CountLaws
