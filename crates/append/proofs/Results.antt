@@ -1,6 +1,6 @@
 -- What append answers and leaves, by what its order decides.
 -- Assumes nothing.
-use mathlib.Core.Path.{◌≡◌, refl, sym, ◌∙◌, ap}
+use mathlib.Core.Path.{◌≡◌, refl, sym, ◌∙◌}
 use mathlib.Core.Bool.{cond}
 use mathlib.Core.List.{List}
 use mathlib.Core.Option.{none, some}
@@ -13,6 +13,7 @@ use mir.Syntax.{w32}
 use mir.Val.{to_z, of_z, SFits}
 use mir.ValLaws.{to_z-of_z}
 use borrow.Author.Tests.{eq-eqb, ne_eqb}
+use Rattle.std.specs.Prelude.{Ok, Err}
 use Rattle.format.specs.declared.Record.{Record}
 use Rattle.model.specs.History.{Amount}
 use Rattle.journal.specs.Inputs.{inputs_of}
@@ -20,19 +21,15 @@ use Rattle.journal.specs.declared.Reason.{Reason}
 use Rattle.journal.specs.Reasons.{number_of, place_of}
 use Rattle.journal.specs.Journal.{count, op_of, history, whole, amount_at}
 use Rattle.journal.specs.Orders.{decide, append_order}
-use Rattle.journal.specs.Calls.{answered, new_record, extended, applied_table, raised, append}
+use Rattle.journal.specs.Calls.{refused, accepted, answered, new_record, extended, applied_table, raised, append}
 use Rattle.journal.proofs.Clear.{decide-clear, clear-decide}
 use Rattle.journal.proofs.Checked.{checks-clear}
 use Rattle.journal.proofs.Unrefused.{room, count-bound, table-length}
 use Rattle.journal.proofs.Appending.{clear-appended}
 use Rattle.validate.proofs.Whole.{checked-ready}
 use Rattle.counts.specs.declared.Counts.{Counts}
-use Rattle.entry.specs.declared.Plan.{Plan}
-use Rattle.entry.specs.declared.Plan.TheVariants as plan
-use Rattle.append.specs.declared.Outcome.TheVariants as outcome
 use Rattle.counts.specs.Answers.{record_counts_of}
 use Rattle.extend.specs.Entering.{Admitted}
-use Rattle.entry.specs.Answers.{plan_of}
 use Rattle.entry.proofs.Agreeing.{agreed-few}
 use Rattle.append.specs.Answers.{FromTable, Appends}
 use Rattle.journal.proofs.Answered.{accepted-only, refused-only}
@@ -72,21 +69,18 @@ from-table t kind s x a r e = rw e (λ h. rw (eq-eqb kind 2 h))
 
 -- ---- refused, or done
 
-pub refused-not-enter : {A : Type 0} (why : Reason) (n : ℕ) → plan.Refused why ≡ plan.Enter n → A
-refused-not-enter why n e = let z : ◌≡◌ {A = ℕ} 0 1 = cc in absurd (omega arith)
-
-module _ (b : List ℕ) (t : List Amount) (kind s x : ℕ) (a : Amount) (c : Counts) (r : Record) (e : r ≡ new_record t kind s x a)
-    (p : Plan) (q : plan_of p ≡ answered (decide (append_order (inputs_of b t) (record_counts_of c) r)) (count b)) where
-  pub append-refused : (why : Reason) → p ≡ plan.Refused why → Appends c (inputs_of b t) kind s x a (outcome.Refused why) c b t
+module _ (b : List ℕ) (t : List Amount) (kind s x : ℕ) (a : Amount) (c : Counts) (r : Record) (e : r ≡ new_record t kind s x a) where
+  pub append-refused : (why : Reason) → refused (number_of why) (place_of why) ≡ answered (decide (append_order (inputs_of b t) (record_counts_of c) r)) (count b)
+      → Appends c (inputs_of b t) kind s x a (Err why) c b t
   unfolding append
-  append-refused why y =
-      let z = refused-only _ _ (decide (append_order (inputs_of b t) (record_counts_of c) r)) _ (sym (ap plan_of y) ∙ q) in
+  append-refused why q =
+      let z = refused-only _ _ (decide (append_order (inputs_of b t) (record_counts_of c) r)) _ q in
       let d : decide (append_order (inputs_of b t) (record_counts_of c) (new_record t kind s x a)) ≡ some (record { number = number_of why; place = place_of why }) = rw (← e) z in
       record { answer = rw d; counts = rw d; journal = rw d; table = rw d }
 
-  module _ (n : ℕ) (y : p ≡ plan.Enter n) where
+  module _ (n : ℕ) (q : accepted n ≡ answered (decide (append_order (inputs_of b t) (record_counts_of c) r)) (count b)) where
     passes : (decide (append_order (inputs_of b t) (record_counts_of c) r) ≡ none) × (n ≡ count b)
-    passes = accepted-only (decide (append_order (inputs_of b t) (record_counts_of c) r)) n (count b) (sym (ap plan_of y) ∙ q)
+    passes = accepted-only (decide (append_order (inputs_of b t) (record_counts_of c) r)) n (count b) q
 
     pub append-admitted : Admitted b t c n r
     append-admitted =
@@ -104,7 +98,7 @@ module _ (b : List ℕ) (t : List Amount) (kind s x : ℕ) (a : Amount) (c : Cou
         })
 
     pub append-done : (d : Counts) (b' : List ℕ) (t' : List Amount) → record_counts_of d ≡ raised r.kind (record_counts_of c) → b' ≡ extended b r → t' ≡ applied_table (history b n) (op_of (n + 1) r) t
-        → Appends c (inputs_of b t) kind s x a outcome.Done d b' t'
+        → Appends c (inputs_of b t) kind s x a (Ok tt) d b' t'
     unfolding append whole
     append-done d b' t' u v w =
         let z : decide (append_order (inputs_of b t) (record_counts_of c) (new_record t kind s x a)) ≡ none = rw (← e) passes.0 in

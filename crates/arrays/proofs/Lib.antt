@@ -2,3 +2,4 @@ pub mod EndCodes
 pub mod Found
 pub mod ArraysLaws
 pub mod WriterLaws
+pub mod Start

@@ -1,37 +1,48 @@
 -- Who wrote an item last, from the record of its last write.
 -- Assumes nothing.
 use mathlib.Core.Path.{◌≡◌, sym, ◌∙◌, ap}
-use mathlib.Core.Bool.{true, false, or-true, or-false}
+use mathlib.Core.Bool.{Bool, true, false, or-true, or-false}
 use mathlib.Core.List.{List}
+use mathlib.Core.Logic.{◌⊎◌, inl, inr}
 use mathlib.Core.Option.{none, some}
 use Prim.Native.Nat.{ℕ, ◌+◌, ◌*◌, ◌<◌, ◌≤◌}
 use native.Mathlib.Omega.{arith}
-use lib.ListN.{length, get_or}
+use lib.Dec.{eqb}
+use lib.ListN.{length, get_or, get_or-map}
 use borrow.Author.Tests.{eq-eqb, ne_eqb}
+use Rattle.std.proofs.lemmas.List.{length-map}
 use Rattle.format.specs.Layout.{record_at}
 use Rattle.model.specs.History.{tag_in, write_to}
 use Rattle.journal.specs.Journal.{tx_in, op_of, history}
 use Rattle.journal.proofs.Records.{tx_of-op_of}
 use Rattle.arrays.specs.declared.Touched.{Touched}
+use Rattle.arrays.specs.declared.end.End.{End}
+use Rattle.arrays.specs.declared.end.End.TheVariants.{Open, Committed, Aborted}
+use Rattle.arrays.specs.Ends.{code_of, codes}
 use Rattle.arrays.specs.Recent.{last_write}
 use Rattle.arrays.specs.Arrays.{Ready, ends_of, writes_of}
 use Rattle.arrays.specs.Writers.{writer_of, looked}
 use Rattle.arrays.proofs.Found.{latest-found, found_none, found-bound, found_some, passed-range}
 use Rattle.arrays.proofs.ArraysLaws.{ends-array, writes-array}
 
-module _ (ends : List ℕ) (s v : ℕ) where
-  module _ (f : Touched) where
-    pub looked-own : s ≡ v → ◌≡◌ {A = Touched} (record { other = f.other; own = true }) (looked ends s v f)
-    unfolding looked
-    looked-own e = rw (eq-eqb s v e, or-false f.other, or-true f.own)
+-- the code of an end is that of the end
+pub code-at : (l : List End) (i : ℕ) → get_or (codes l) i 0 ≡ code_of (get_or l i Open)
+code-at l i = get_or-map code_of l i Open
 
-    pub looked-other : (end : ℕ) → end ≡ get_or ends v 0 → (s ≡ v → ⊥) → end ≡ 0 → ◌≡◌ {A = Touched} (record { other = true; own = f.own }) (looked ends s v f)
-    unfolding looked
-    looked-other end q e z = rw (ne_eqb s v e, ← q, z, or-false f.own, or-true f.other)
+module _ (ends : List End) (s v : ℕ) (f : Touched) where
+  pub looked-own : (t : Bool) → t ≡ eqb s v → t ≡ true → ◌≡◌ {A = Touched} (record { other = f.other; own = true }) (looked (codes ends) s v f)
+  unfolding looked
+  looked-own t e h = rw (← e, h, or-false f.other, or-true f.own)
 
-    pub looked-ended : (end : ℕ) → end ≡ get_or ends v 0 → (s ≡ v → ⊥) → (end ≡ 0 → ⊥) → f ≡ looked ends s v f
+  module _ (t : Bool) (e : t ≡ eqb s v) (h : t ≡ false) (i : ℕ) (q : i ≡ v) where
+    pub looked-open : get_or ends i Open ≡ Open → ◌≡◌ {A = Touched} (record { other = true; own = f.own }) (looked (codes ends) s v f)
     unfolding looked
-    looked-ended end q e z = rw (ne_eqb s v e, ← q, ne_eqb end 0 z, or-false f.own, or-false f.other)
+    looked-open z = rw (← e, h, ← q, code-at ends i, z, or-false f.own, or-true f.other)
+
+    pub looked-ended : (get_or ends i Open ≡ Committed) ⊎ (get_or ends i Open ≡ Aborted) → f ≡ looked (codes ends) s v f
+    unfolding looked
+    looked-ended (inl z) = rw (← e, h, ← q, code-at ends i, z, or-false f.own, or-false f.other)
+    looked-ended (inr z) = rw (← e, h, ← q, code-at ends i, z, or-false f.own, or-false f.other)
 
 -- ---- the last writer
 
@@ -55,10 +66,11 @@ module _ (b : List ℕ) (n x w : ℕ) (l : List ℕ) (k : Ready b n) (e : l ≡ 
   last_some z =
       found_some (latest-found (write_to x) b n) (λ y. z (last-tag ∙ y)) ∙ ap (λ t. some (op_of t (record_at b t))) (sym last-tag)
 
-  pub last-range : (v : ℕ) (m : List ℕ) → (w ≡ 0 → ⊥) → v ≡ tx_in (record_at b w) → m ≡ ends_of (history b n) → v < length m
-  last-range v m z y f =
-      let r = passed-range b n k.passed w (omega arith) last-le in
-      rw (f, (ends-array (history b n)).size) (omega arith)
+  pub last-low : (v : ℕ) → (w ≡ 0 → ⊥) → v ≡ tx_in (record_at b w) → v < 1025
+  last-low v z y = let r = passed-range b n k.passed w (omega arith) last-le in omega (arith, y)
+
+  pub last-range : (v : ℕ) (ends : List End) → (w ≡ 0 → ⊥) → v ≡ tx_in (record_at b w) → codes ends ≡ ends_of (history b n) → v < length ends
+  last-range v ends z y f = let r = last-low v z y in omega (arith, (ends-array (history b n)).size, ap length f, length-map ends code_of)
 
   pub last-nobody : (s : ℕ) → w ≡ 0 → nobody ≡ writer_of (history b n) s x
   unfolding writer_of
@@ -68,9 +80,4 @@ module _ (b : List ℕ) (n x w : ℕ) (l : List ℕ) (k : Ready b n) (e : l ≡ 
       → r ≡ writer_of (history b n) s x
   unfolding writer_of looked
   last-looked s v m r z y f g =
-      let c = last-range v m z y f in
-      let d : v < 1025 = omega (arith, (ends-array (history b n)).size, ap length f) in
-      g ∙ rw (last_some z, tx_of-op_of w (record_at b w), f, (ends-array (history b n)).at v 0 d, y)
-
-pub writes-in : (b : List ℕ) (n x : ℕ) (l : List ℕ) → l ≡ writes_of (history b n) → x < 1024 → x < length l
-writes-in b n x l e h = rw (e, (writes-array (history b n)).size) h
+      g ∙ rw (last_some z, tx_of-op_of w (record_at b w), f, (ends-array (history b n)).at v 0 (last-low v z y), y)

@@ -1,3 +1,5 @@
 pub mod Recent
 pub mod Arrays
+pub mod Ends
+pub mod Past
 pub mod Writers

@@ -7,7 +7,6 @@ ghost use Rattle.certified.specs.Promises.{AppendPromise};
 ghost use Rattle.c_answers.specs.Results.{record_counts_in};
 ghost use Rattle.c_append.specs.Leaves.{AppendLeaves, appended_in};
 
-use append::Outcome;
 use counts::Counts;
 use format::{Key, TransactionId};
 
@@ -30,14 +29,9 @@ pub fn append(
         (record_counts_in counts.old) (record { kind = kind; tx = transaction; item = item; after = after })
         (appended_in result answer.new journal.new table.new counts.new) }
 {
-    let given = Counts {
-        reads: counts[0],
-        writes: counts[1],
-        commits: counts[2],
-        aborts: counts[3],
-    };
+    let mut tally = Counts::from(*counts);
     let appended = certified::append(
-        given,
+        &mut tally,
         journal,
         table,
         kind,
@@ -45,12 +39,12 @@ pub fn append(
         Key(item),
         after,
     );
-    let outcome = appended.answer;
-    let Outcome::Refused(why) = outcome else {
-        let now = appended.counts;
-        *counts = [now.reads, now.writes, now.commits, now.aborts];
-        *answer = 0;
-        return 0;
-    };
-    c_answers::refuse(why, answer)
+    match appended {
+        Ok(()) => {
+            *counts = tally.into();
+            *answer = 0;
+            0
+        }
+        Err(why) => c_answers::refuse(why, answer),
+    }
 }

@@ -9,12 +9,7 @@ ghost use Rattle.certified.specs.Promises.{StartPromise, CheckPromise, ChainProm
 ghost use Rattle.c_answers.specs.Results.{result_of, answer_with, loan_with, answer_in, count_list};
 ghost use Rattle.c_calls.specs.Leaves.{started_in, walked_in, counted_in};
 
-use chain::Walk;
-use counts::Counted;
 use format::TransactionId;
-use init::Init;
-use journal::Reason;
-use validate::Checked;
 
 // Starts a journal of this many items.
 pub fn start(journal: &mut [u8], items: u32, answer: &mut u64) -> u32
@@ -24,11 +19,7 @@ pub fn start(journal: &mut [u8], items: u32, answer: &mut u64) -> u32
     ensures demands { StartPromise journal.old items (started_in result answer.new journal.new) }
 {
     let started = certified::start(journal, items);
-    let Init::Refused(why) = started else {
-        *answer = 0;
-        return 0;
-    };
-    c_answers::refuse(why, answer)
+    c_answers::hand_over(started.map(|()| 0), answer)
 }
 
 // How many transactions are active in a journal that passes with its table.
@@ -40,14 +31,7 @@ pub fn check(journal: &[u8], table: &[i32], answer: &mut u64) -> u32
         (answer_in (λ n. n) result answer.new) }
 {
     let checked = certified::check(journal, table);
-    let Checked::Active(active) = checked else {
-        let Checked::Refused(why) = checked else {
-            return c_answers::refuse(Reason::Truncated, answer);
-        };
-        return c_answers::refuse(why, answer);
-    };
-    *answer = active as u64;
-    0
+    c_answers::hand_over(checked.map(u64::from), answer)
 }
 
 // Writes the record numbers of one transaction to the front of `lsns`.
@@ -60,14 +44,7 @@ pub fn chain(journal: &[u8], transaction: u16, lsns: &mut [u32], answer: &mut u6
         (walked_in result answer.new lsns.new) }
 {
     let walked = certified::chain(journal, TransactionId(transaction), lsns);
-    let Walk::Visited(visited) = walked else {
-        let Walk::Refused(why) = walked else {
-            return c_answers::refuse(Reason::Truncated, answer);
-        };
-        return c_answers::refuse(why, answer);
-    };
-    *answer = visited as u64;
-    0
+    c_answers::hand_over(walked.map(u64::from), answer)
 }
 
 // The record counts of a journal or a copy, for posting to go on with: reads, writes, commits and aborts. They are written only
@@ -79,14 +56,12 @@ pub fn count_records(journal: &[u8], counts: &mut [u32; 4], answer: &mut u64) ->
         ≡ loan_with count_list counts.old (calls.count_records journal.now) }
     ensures demands { CountPromise journal.now (counted_in result answer.new counts.new) }
 {
-    let counted = certified::count_records(journal);
-    let Counted::Counts(found) = counted else {
-        let Counted::Refused(why) = counted else {
-            return c_answers::refuse(Reason::Truncated, answer);
-        };
-        return c_answers::refuse(why, answer);
-    };
-    *counts = [found.reads, found.writes, found.commits, found.aborts];
-    *answer = 0;
-    0
+    match certified::count_records(journal) {
+        Ok(found) => {
+            *counts = found.into();
+            *answer = 0;
+            0
+        }
+        Err(why) => c_answers::refuse(why, answer),
+    }
 }

@@ -6,9 +6,6 @@ ghost use Rattle.journal.specs.Calls as calls;
 ghost use Rattle.certified.specs.Promises.{UndoPromise};
 ghost use Rattle.c_undo.specs.Leaves.{UndoLeaves, undo_result_in};
 
-use deliver::Undone;
-use journal::Reason;
-
 // Undoes the listed transactions and all that read from them (document 01, take-back). `surviving`, `undone` and `aborted` are
 // written only where it is accepted.
 pub fn undo(
@@ -33,16 +30,14 @@ pub fn undo(
         (undo_result_in result answer.new table.new status.new out.new
         (record { surviving = surviving.new; undone = undone.new; aborted = aborted.new })) }
 {
-    let repaired = certified::undo(journal, table, bad, status, out);
-    let Undone::Done(totals) = repaired else {
-        let Undone::Refused(why) = repaired else {
-            return c_answers::refuse(Reason::Truncated, answer);
-        };
-        return c_answers::refuse(why, answer);
-    };
-    *surviving = totals.surviving;
-    *undone = totals.undone;
-    *aborted = totals.aborted;
-    *answer = totals.bytes as u64;
-    0
+    match certified::undo(journal, table, bad, status, out) {
+        Ok(totals) => {
+            *surviving = totals.surviving;
+            *undone = totals.undone;
+            *aborted = totals.aborted;
+            *answer = totals.bytes as u64;
+            0
+        }
+        Err(why) => c_answers::refuse(why, answer),
+    }
 }

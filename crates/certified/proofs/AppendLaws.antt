@@ -97,7 +97,8 @@ module _ (d : Inputs) (c : RecordCounts) (p : AppendCall) where
           lowest_item = demand-1.lowest_place.append_item d c p.kind p.tx p.item p.after;
         }
 
+    -- and so does every call whose answer and loans are the definition's
     pub append-certified : {r : AppendResult} → r.answer ≡ (append_on state p).answer → r.journal ≡ (append_on state p).journal → r.table ≡ (append_on state p).table → r.counts ≡ (append_on state p).counts
-        → (r ≡ append_on state p) × AppendPromise d c p r
+        → AppendPromise d c p r
     append-certified {r} answer journal table tally =
-        let e : r ≡ append_on state p = λ i. record { answer = answer i; journal = journal i; table = table i; counts = tally i } in (e, rw e append-keeps)
+        let e : r ≡ append_on state p = λ i. record { answer = answer i; journal = journal i; table = table i; counts = tally i } in rw e append-keeps

@@ -47,5 +47,6 @@ module _ (b : List ℕ) (s : ℕ) (l : List ℕ) where
         lowest_record = demand-1.lowest_record.chain b s l;
       }
 
-  pub chain-certified : {r : ChainResult} → (r.answer ≡ (chain b s l).answer) × (r.lsns ≡ (chain b s l).lsns) → (r ≡ chain b s l) × ChainPromise b s l r
-  chain-certified {r} (answer, lsns) = let e : r ≡ chain b s l = λ i. record { answer = answer i; lsns = lsns i } in (e, rw e chain-keeps)
+  -- and so does every call whose answer and loan are the definition's
+  pub chain-certified : {r : ChainResult} → r.answer ≡ (chain b s l).answer → r.lsns ≡ (chain b s l).lsns → ChainPromise b s l r
+  chain-certified {r} answer lsns = let e : r ≡ chain b s l = λ i. record { answer = answer i; lsns = lsns i } in rw e chain-keeps

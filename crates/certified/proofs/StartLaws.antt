@@ -30,5 +30,6 @@ module _ (b : List ℕ) (n : ℕ) where
   start-keeps =
       record { started = fresh; refuses = demand-1.start b n }
 
-  pub start-certified : {r : StartResult} → (r.answer ≡ (start b n).answer) × (r.journal ≡ (start b n).journal) → (r ≡ start b n) × StartPromise b n r
-  start-certified {r} (answer, journal) = let e : r ≡ start b n = λ i. record { answer = answer i; journal = journal i } in (e, rw e start-keeps)
+  -- and so does every call whose answer and loan are the definition's
+  pub start-certified : {r : StartResult} → r.answer ≡ (start b n).answer → r.journal ≡ (start b n).journal → StartPromise b n r
+  start-certified {r} answer journal = let e : r ≡ start b n = λ i. record { answer = answer i; journal = journal i } in rw e start-keeps

@@ -39,9 +39,8 @@ module _ (d : Inputs) (bad status out : List ℕ) where
         }
 
     -- and so does every call whose answer and loans are the definition's
-    pub undo-certified : {r : UndoResult} → (r.answer ≡ (undo d bad status out).answer)
-        × ((r.table ≡ (undo d bad status out).table) × ((r.status ≡ (undo d bad status out).status) × (r.out ≡ (undo d bad status out).out)))
-        → (r ≡ undo d bad status out) × UndoPromise d bad status out r
-    undo-certified {r} (answer, (table, (marks, paper))) =
+    pub undo-certified : {r : UndoResult} → r.answer ≡ (undo d bad status out).answer → r.table ≡ (undo d bad status out).table
+        → r.status ≡ (undo d bad status out).status → r.out ≡ (undo d bad status out).out → UndoPromise d bad status out r
+    undo-certified {r} answer table marks paper =
         let e : r ≡ undo d bad status out = λ i. record { answer = answer i; table = table i; status = marks i; out = paper i } in
-        (e, rw e undo-keeps)
+        rw e undo-keeps

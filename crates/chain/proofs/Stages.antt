@@ -12,15 +12,15 @@ use borrow.Author.Tests.{eqb-true, ne_eqb, lt-ltb, le-ltb, ltb-true, ltb-false}
 use Rattle.lists.specs.Search.{any, first, or_else}
 use Rattle.lists.proofs.BoolLaws.{by_cases}
 use Rattle.lists.proofs.SearchLaws.{first-none, first_some}
-use Rattle.format.specs.declared.Lsn.{Lsn}
 use Rattle.format.specs.Layout.{record_at}
 use Rattle.model.specs.History.{Op, tag_in, of_tx}
 use Rattle.journal.specs.declared.Reason.{Reason}
 use Rattle.journal.specs.Reasons.{number_of, place_of}
-use Rattle.journal.specs.Journal.{count, items, tx_in, history, whole}
+use Rattle.journal.specs.Outcomes.{refusal_of}
+use Rattle.journal.specs.Journal.{count, tx_in, history, whole}
 use Rattle.journal.specs.Refusals.{absent, too_short}
 use Rattle.journal.specs.Orders.{try, decide, open_order, records_order, present_order, capacity_order, chain_order}
-use Rattle.journal.specs.Calls.{Answer, refused, accepted, answered, walk, written, chain_of, chain}
+use Rattle.journal.specs.Calls.{Answer, refused, accepted, answered, written, chain_of, chain}
 use Rattle.journal.proofs.OrdersLaws.{decide-yes, decide-no, decide-turn, decide-one, decide-turns}
 use Rattle.journal.proofs.Clear.{decide-clear, turns-clear}
 use Rattle.journal.proofs.Answered.{accepted-only, refused-only}
@@ -28,20 +28,12 @@ use Rattle.journal.proofs.Checked.{clear-sound}
 use Rattle.journal.proofs.Records.{tx_of-op_of}
 use Rattle.journal.proofs.Unrefused.{sound-long}
 use Rattle.journal.proofs.Passing.{head-facts}
-use Rattle.fields.specs.declared.Headed.{Headed}
-use Rattle.fields.specs.declared.Headed.TheVariants as headed
-use Rattle.fields.specs.Answers.{header_of, Opened}
+use Rattle.fields.specs.Answers.{Size, size_of}
 use Rattle.arrays.specs.Recent.{first_tag}
-use Rattle.arrays.specs.Arrays.{Ready, State, firsts_of}
+use Rattle.arrays.specs.Arrays.{Ready, firsts_of}
 use Rattle.arrays.proofs.ArraysLaws.{firsts-array}
 use Rattle.arrays.proofs.Found.{Found, at, first_found, found_none, found-bound, core-right, passed-range}
-use Rattle.rules.specs.declared.Verdict.{Verdict}
-use Rattle.rules.specs.declared.Verdict.TheVariants as verdict
-use Rattle.rules.specs.Answers.{verdict_of}
-use Rattle.scan.proofs.Pass.{passed-ready}
-use Rattle.chain.specs.declared.Begun.{Begun}
-use Rattle.chain.specs.declared.Begun.TheVariants as begun
-use Rattle.chain.specs.Answers.{begun_of, first_in, first_order, begin_order}
+use Rattle.chain.specs.Answers.{first_in, first_order, begin_order, walk_from}
 
 -- ---- 12: the first record
 
@@ -87,42 +79,41 @@ absent-first b s =
     rw (e, ne_eqb (first_tag (history b (count b)) s) 0 (λ z. none-ne-some w (sym (found_none (first_found (of_tx s) b (count b)) z) ∙ q))))
     (λ e. rw (e, first-none (of_tx s) (history b (count b)) e))
 
-module _ (b : List ℕ) (n m s : ℕ) (o : Opened b n m) (v : Verdict) (q : verdict_of v ≡ decide (records_order b)) where
-  first-parts : decide (first_order b s) ≡ or_else (verdict_of v) (decide (try 12 0 (absent b s)))
+module _ (b : List ℕ) (s : ℕ) where
+  first-parts : decide (first_order b s) ≡ or_else (decide (records_order b)) (decide (try 12 0 (absent b s)))
   unfolding first_order present_order
-  first-parts = decide-turn (records_order b) (present_order b s ∷ []) ∙ rw (q, decide-one (present_order b s))
+  first-parts = decide-turn (records_order b) (present_order b s ∷ []) ∙ rw (decide-one (present_order b s))
 
-  pub first-refused : (why : Reason) → v ≡ verdict.Refused why → refused (number_of why) (place_of why) ≡ answered (decide (first_order b s)) (first_tag (whole b) s)
-  first-refused why e = rw (first-parts, e)
-
-  pub first-passed : (ends firsts writes bases reads links : List ℕ) (r : Answer ℕ) → v ≡ verdict.Passed → (verdict_of v ≡ none → State b n ends firsts writes bases reads links) → r ≡ first_in firsts s
+  first-passed : (n : ℕ) (firsts : List ℕ) (r : Answer ℕ) → Ready b n → n ≡ count b → firsts ≡ firsts_of (history b n) → none ≡ decide (records_order b) → r ≡ first_in firsts s
       → r ≡ answered (decide (first_order b s)) (first_tag (whole b) s)
   unfolding first_in whole
-  first-passed ends firsts writes bases reads links r p st g =
-      let t : get_or firsts s 0 ≡ first_tag (whole b) s = rw (← o.counted) (first-array b n s firsts (passed-ready b n m v o p q) (st (ap verdict_of p)).begun) in
-      g ∙ rw (first-parts, p, t, absent-first b s) (go (eqb (first_tag (whole b) s) 0) (first_tag (whole b) s))
+  first-passed n firsts r k c f p g =
+      let t : get_or firsts s 0 ≡ first_tag (whole b) s = rw (← c) (first-array b n s firsts k f) in
+      g ∙ rw (first-parts, ← p, t, absent-first b s) (go (eqb (first_tag (whole b) s) 0) (first_tag (whole b) s))
     where
       go : (c : Bool) (k : ℕ) → cond c (refused 12 0) (accepted k) ≡ answered (decide (try 12 0 c)) k
       go true k = rw (decide-yes 12 0 refl)
       go false k = rw (decide-no 12 0 refl)
 
--- ---- the head
+  -- ---- the head, then the records
 
-begin-parts : (b : List ℕ) (s : ℕ) → decide (begin_order b s) ≡ or_else (decide (open_order b)) (decide (first_order b s))
-unfolding begin_order first_order
-begin-parts b s = decide-turn (open_order b) (records_order b ∷ present_order b s ∷ [])
+  begin-parts : decide (begin_order b s) ≡ or_else (decide (open_order b)) (decide (first_order b s))
+  unfolding begin_order first_order
+  begin-parts = decide-turn (open_order b) (records_order b ∷ present_order b s ∷ [])
 
-module _ (b : List ℕ) (s : ℕ) (h : Headed) (q : header_of h ≡ answered (decide (open_order b)) (record { records = count b; items = items b })) where
-  pub begin-refused : (why : Reason) → h ≡ headed.Refused why → refused (number_of why) (place_of why) ≡ answered (decide (begin_order b s)) (first_tag (whole b) s)
-  begin-refused why e =
-      let z = sym (ap header_of e) ∙ q in
-      rw (begin-parts b s, refused-only _ _ (decide (open_order b)) _ z)
+  pub begin-refused : (k p : ℕ) → refused k p ≡ answered (decide (open_order b)) (size_of b) → refused k p ≡ answered (decide (begin_order b s)) (first_tag (whole b) s)
+  begin-refused k p q = rw (begin-parts, refused-only k p (decide (open_order b)) (size_of b) q)
 
-  pub begin-right : (n m : ℕ) (r : Answer ℕ) → h ≡ headed.Size n m → r ≡ answered (decide (first_order b s)) (first_tag (whole b) s)
-      → r ≡ answered (decide (begin_order b s)) (first_tag (whole b) s)
-  begin-right n m r e g =
-      let z = accepted-only (decide (open_order b)) _ _ (sym (ap header_of e) ∙ q) in
-      rw (begin-parts b s, z.0) g
+  module _ (z : Size) (q : accepted z ≡ answered (decide (open_order b)) (size_of b)) where
+    begin-right : decide (begin_order b s) ≡ decide (first_order b s)
+    begin-right = rw (begin-parts, (accepted-only (decide (open_order b)) z (size_of b) q).0)
+
+    pub begin-records : (why : Reason) → some (refusal_of why) ≡ decide (records_order b) → refused (number_of why) (place_of why) ≡ answered (decide (begin_order b s)) (first_tag (whole b) s)
+    begin-records why g = rw (begin-right, first-parts, ← g)
+
+    pub begin-passed : (n : ℕ) (firsts : List ℕ) (r : Answer ℕ) → Ready b n → n ≡ count b → firsts ≡ firsts_of (history b n) → none ≡ decide (records_order b) → r ≡ first_in firsts s
+        → r ≡ answered (decide (begin_order b s)) (first_tag (whole b) s)
+    begin-passed n firsts r k c f p g = rw begin-right (first-passed n firsts r k c f p g)
 
 -- ---- 14: the room
 
@@ -135,46 +126,46 @@ opened-ready b s e =
     let l = sound-long k in
     record { long = omega arith; few = h.few; items = h.most; passed = λ i h. core-right (k.right i h) }
 
-module _ (b : List ℕ) (s : ℕ) (l : List ℕ) (g : Begun) (q : begun_of g ≡ answered (decide (begin_order b s)) (first_tag (whole b) s)) where
+module _ (b : List ℕ) (s : ℕ) (l : List ℕ) where
   chain-parts : (n : ℕ) → decide (chain_order b s l n) ≡ or_else (decide (begin_order b s)) (decide (try 14 0 (too_short l n)))
   unfolding chain_order begin_order capacity_order
   chain-parts n =
       decide-turns (open_order b ∷ records_order b ∷ present_order b s ∷ []) (capacity_order l n ∷ [])
       ∙ ap (or_else (decide (begin_order b s))) (decide-one (capacity_order l n))
 
-  pub chain-refused : (why : Reason) → g ≡ begun.Refused why → (refused (number_of why) (place_of why) ≡ (chain b s l).answer) × (l ≡ (chain b s l).lsns)
+  pub chain-refused : (k p : ℕ) → refused k p ≡ answered (decide (begin_order b s)) (first_tag (whole b) s) → (refused k p ≡ (chain b s l).answer) × (l ≡ (chain b s l).lsns)
   unfolding chain
-  chain-refused why e =
-      let z = refused-only _ _ (decide (begin_order b s)) _ (sym (ap begun_of e) ∙ q) in
-      let d : decide (chain_order b s l (length (chain_of b s))) ≡ some (record { number = number_of why; place = place_of why }) = chain-parts (length (chain_of b s)) ∙ rw z in
+  chain-refused k p q =
+      let z = refused-only k p (decide (begin_order b s)) _ q in
+      let d : decide (chain_order b s l (length (chain_of b s))) ≡ some (record { number = k; place = p }) = chain-parts (length (chain_of b s)) ∙ rw z in
       (rw d, rw d)
 
-  module _ (i : Lsn) (e : g ≡ begun.At i) where
-    passes : (decide (begin_order b s) ≡ none) × (i.0 ≡ first_tag (whole b) s)
-    passes = accepted-only (decide (begin_order b s)) i.0 _ (sym (ap begun_of e) ∙ q)
+  module _ (i : ℕ) (q : accepted i ≡ answered (decide (begin_order b s)) (first_tag (whole b) s)) where
+    passes : (decide (begin_order b s) ≡ none) × (i ≡ first_tag (whole b) s)
+    passes = accepted-only (decide (begin_order b s)) i _ q
 
     pub chain-ready : Ready b (count b)
     chain-ready = opened-ready b s passes.0
 
-    pub chain-low : i.0 ≤ count b
+    pub chain-low : i ≤ count b
     unfolding whole
     chain-low = rw passes.1 (found-bound (first_found (of_tx s) b (count b)))
 
-    chain-is : chain_of b s ≡ walk b (count b) i.0
+    chain-is : chain_of b s ≡ walk_from b i
     unfolding chain_of
-    chain-is = ap (walk b (count b)) (sym passes.1)
+    chain-is = ap (walk_from b) (sym passes.1)
 
     decides : decide (chain_order b s l (length (chain_of b s))) ≡ decide (try 14 0 (too_short l (length (chain_of b s))))
     decides = chain-parts (length (chain_of b s)) ∙ rw passes.0
 
-    pub chain-short : (k : ℕ) → k ≡ length (walk b (count b) i.0) → length l < k → (refused 14 0 ≡ (chain b s l).answer) × (l ≡ (chain b s l).lsns)
+    pub chain-short : (k : ℕ) → k ≡ length (walk_from b i) → length l < k → (refused 14 0 ≡ (chain b s l).answer) × (l ≡ (chain b s l).lsns)
     unfolding chain too_short
     chain-short k c h =
         let n : length (chain_of b s) ≡ k = ap length chain-is ∙ sym c in
         let d = decides ∙ decide-yes 14 0 (rw n (lt-ltb (length l) k h)) in
         (rw d, rw d)
 
-    pub chain-walked : (k : ℕ) (m : List ℕ) → k ≡ length (walk b (count b) i.0) → k ≤ length l → m ≡ written (walk b (count b) i.0) l → (accepted k ≡ (chain b s l).answer) × (m ≡ (chain b s l).lsns)
+    pub chain-walked : (k : ℕ) (m : List ℕ) → k ≡ length (walk_from b i) → k ≤ length l → m ≡ written (walk_from b i) l → (accepted k ≡ (chain b s l).answer) × (m ≡ (chain b s l).lsns)
     unfolding chain too_short
     chain-walked k m c h w =
         let n : length (chain_of b s) ≡ k = ap length chain-is ∙ sym c in

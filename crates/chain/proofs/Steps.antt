@@ -1,14 +1,14 @@
--- The chain followed step by step: record numbers rise, so that the walk ends.
+-- A chain followed from record to record: record numbers rise, so that the walk ends.
 -- Assumes nothing.
 use mathlib.Core.Path.{◌≡◌, refl, sym, ◌∙◌, ap}
 use mathlib.Core.List.{List, [], ◌∷◌}
-use Prim.Native.Nat.{ℕ, zero, suc, ◌+◌, ◌-◌, ◌*◌, ◌<◌, ◌≤◌}
+use Prim.Native.Nat.{ℕ, zero, suc, ◌+◌, ◌<◌, ◌≤◌}
 use native.Mathlib.Omega.{arith}
 use native.Mathlib.Numerals.{add-one}
 use lib.Dec.{eqb}
-use lib.ListN.{length, take, drop, get_or, set, length-append, length-drop}
-use lib.Seq.{length-take-le, take-length, take-suc, drop-cons, drop-drop, get_or-drop, set_at, append_snoc}
-use borrow.Author.Tests.{ne_eqb, ltb-true}
+use lib.ListN.{length, take, drop, get_or, set, length-drop}
+use lib.Seq.{length-take-le, take_all, take-suc, drop-cons, drop-drop, get_or-drop, set_at, append_snoc}
+use borrow.Author.Tests.{ne_eqb, eqb-true, eqb-false, ltb-true}
 use Rattle.lists.specs.Search.{any, first}
 use Rattle.lists.proofs.BoolLaws.{by_cases, and_right}
 use Rattle.lists.proofs.SearchLaws.{first-none, first_some}
@@ -19,6 +19,7 @@ use Rattle.journal.specs.Calls.{walk, written}
 use Rattle.journal.proofs.Unrefused.{chained-next}
 use Rattle.arrays.specs.Arrays.{Ready}
 use Rattle.arrays.proofs.Found.{first_found, found-bound, passed-right}
+use Rattle.chain.specs.Answers.{walk_from}
 
 -- ---- one record
 
@@ -31,7 +32,7 @@ module _ (b : List ℕ) (k : Ready b (count b)) (i : ℕ) (z : i ≡ 0 → ⊥) 
       go (suc i) z l = chained-next b (suc i) (passed-right b (count b) k.passed i l).chained
 
   -- next is a record
-  next_low : (record_at b i).next.0 ≤ count b
+  pub next_low : (record_at b i).next.0 ≤ count b
   unfolding whole
   next_low = rw next-is (found-bound (first_found (later_of i (tx_in (record_at b i))) b (count b)))
 
@@ -55,84 +56,60 @@ pub walk_step : (b : List ℕ) (n i : ℕ) → (i ≡ 0 → ⊥) → walk b (suc
 unfolding walk
 walk_step b n i z = rw (ne_eqb i 0 z)
 
--- after k records, at record i
-pub record Walking (b : List ℕ) (from k i : ℕ) : Type 0 where
-  pub low : i ≤ count b
-  rising : (i ≡ 0 → ⊥) → k < i
-  pub short : k ≤ count b
-  far : k ≤ length (walk b (count b) from)
-  pub left : drop k (walk b (count b) from) ≡ walk b (count b - k) i
+pub length-walk : (b : List ℕ) (n i : ℕ) → length (walk b n i) ≤ n
+unfolding walk
+length-walk b zero i = omega arith
+length-walk b (suc n) i =
+    let h = length-walk b n (record_at b i).next.0 in
+    by_cases (eqb i 0) (λ e. rw e (omega arith)) (λ e. rw e (omega arith))
 
-pub walking_start : (b : List ℕ) (from : ℕ) → from ≤ count b → Walking b from 0 from
-walking_start b from l =
-    let e : count b - 0 ≡ count b = omega arith in
-    record { low = l; rising = λ z. omega arith; short = omega arith; far = omega arith; left = rw e }
+module _ (b : List ℕ) (r : Ready b (count b)) where
+  -- a bound that the numbers left cannot pass is no bound
+  walk-enough : (n i : ℕ) → i ≤ count b → ((i ≡ 0 → ⊥) → count b < n + i) → walk b (suc n) i ≡ walk b n i
+  walk-enough zero i l h =
+      by_cases (eqb i 0)
+      (λ e. let z = eqb-true i 0 e in walk_end b 1 i z ∙ sym (walk_end b 0 i z))
+      (λ e. let m = h (eqb-false i 0 e) in absurd (omega arith))
+  walk-enough (suc n) i l h =
+      by_cases (eqb i 0)
+      (λ e. let z = eqb-true i 0 e in walk_end b (suc (suc n)) i z ∙ sym (walk_end b (suc n) i z))
+      (λ e. let z : i ≡ 0 → ⊥ = eqb-false i 0 e in
+      let later = next-later b r i z l in
+      let enough = h z in
+      walk_step b (suc n) i z
+      ∙ ap (λ w. i ∷ w) (walk-enough n (record_at b i).next.0 (next_low b r i z l) (λ y. let m = later y in omega arith))
+      ∙ sym (walk_step b n i z))
 
-module _ (b : List ℕ) (from k i : ℕ) (w : Walking b from k i) where
-  pub walking-long : Ready b (count b) → 20 * (i + 1) ≤ length b
-  walking-long r = omega (arith, w.low, r.long)
+  -- a walk takes one record, and goes on at its next
+  pub walk_next : (i : ℕ) → (i ≡ 0 → ⊥) → i ≤ count b → walk_from b i ≡ i ∷ walk_from b (record_at b i).next.0
+  walk_next i z l = sym (walk-enough (count b) i l (λ y. omega arith)) ∙ walk_step b (count b) i z
 
-  pub walking-same : (l m : List ℕ) → m ≡ written (take k (walk b (count b) from)) l → length (walk b (count b) from) ≤ length l → length m ≡ length l
-  walking-same l m e h =
-      let c = walk b (count b) from in
-      let t : length (take k c) ≡ k = length-take-le k c w.far in
-      rw (e, length-append (take k c) (drop (length (take k c)) l), t, length-drop k l) (omega (arith, w.far))
+-- ---- the list it is written to
 
-  module _ (z : i ≡ 0 → ⊥) where
-    pub walking-less : count b - (k + 1) < count b - k
-    walking-less = omega (arith, w.low, w.rising z)
+module _ (c l : List ℕ) (h : length c ≤ length l) (k : ℕ) where
+  module _ (x : ℕ) (r : List ℕ) (e : drop k c ≡ x ∷ r) where
+    left : k < length c
+    left = let n = ap length e in omega (arith, length-drop k c)
 
-    next-left : drop k (walk b (count b) from) ≡ i ∷ walk b (count b - (k + 1)) (record_at b i).next.0
-    next-left =
-        let e : count b - k ≡ suc (count b - (k + 1)) = omega (arith, w.low, w.rising z) in
-        w.left ∙ rw e (walk_step b (count b - (k + 1)) i z)
+    pub written-in : k < length l
+    written-in = let f = left in omega arith
 
-    next-far : k < length (walk b (count b) from)
-    next-far = let e = ap length next-left in omega (arith, length-drop k (walk b (count b) from))
+    pub written-left : drop (k + 1) c ≡ r
+    written-left = sym (drop-drop 1 k c) ∙ ap (drop 1) e
 
-    pub walking-step : (n : ℕ) → Ready b (count b) → n ≡ (record_at b i).next.0 → Walking b from (k + 1) n
-    walking-step n r q =
-        let f = next-far in
-        let later = next-later b r i z w.low in
-        let rise = w.rising z in
-        rw q
-        (record {
-          low = next_low b r i z w.low;
-          rising = λ y. let m = later y in omega arith;
-          short = omega (arith, w.low);
-          far = omega arith;
-          left = sym (drop-drop 1 k (walk b (count b) from)) ∙ ap (drop 1) next-left;
-        })
+    pub written-set : set (written (take k c) l) k x ≡ written (take (k + 1) c) l
+    written-set =
+        let f = left in
+        let g = written-in in
+        let t : length (take k c) ≡ k = length-take-le k c (omega arith) in
+        let u : length (take (suc k) c) ≡ suc k = length-take-le (suc k) c f in
+        let z : k + 0 ≡ k = omega arith in
+        let y : get_or c k 0 ≡ x = ap (λ j. get_or c j 0) (sym z) ∙ sym (get_or-drop k c 0 0) ∙ ap (λ l. get_or l 0 0) e in
+        rw (t, add-one, u, drop-cons l k 0 g, set_at (take k c) (get_or l k 0) (drop (suc k) l) x k t, take-suc c k 0 f, y)
+        (sym (append_snoc (take k c) x (drop (suc k) l)))
 
-    pub visit-at : get_or (walk b (count b) from) k 0 ≡ i
-    visit-at =
-        let e : k + 0 ≡ k = omega arith in
-        ap (λ j. get_or (walk b (count b) from) j 0) (sym e) ∙ sym (get_or-drop k (walk b (count b) from) 0 0) ∙ ap (λ l. get_or l 0 0) next-left
-
-    -- the list it is written to
-    module _ (l m : List ℕ) (e : m ≡ written (take k (walk b (count b) from)) l) (h : length (walk b (count b) from) ≤ length l) where
-      pub walking-in : k < length m
-      walking-in = let f = next-far in let g = walking-same l m e h in omega arith
-
-      pub walking-write : set m k i ≡ written (take (k + 1) (walk b (count b) from)) l
-      walking-write =
-          let c = walk b (count b) from in
-          let f = next-far in
-          let g : k < length l = omega arith in
-          let t : length (take k c) ≡ k = length-take-le k c w.far in
-          let u : length (take (suc k) c) ≡ suc k = length-take-le (suc k) c f in
-          rw (e, t, add-one, u, drop-cons l k 0 g, set_at (take k c) (get_or l k 0) (drop (suc k) l) i k t, take-suc c k 0 f, visit-at)
-          (sym (append_snoc (take k c) i (drop (suc k) l)))
-
-  pub walking-counts : i ≡ 0 → k ≡ length (walk b (count b) from)
-  walking-counts z =
-      let e = ap length (w.left ∙ walk_end b (count b - k) i z) in
-      omega (arith, length-drop k (walk b (count b) from), w.far)
-
-  pub walking-few : Ready b (count b) → k ≤ 3200
-  walking-few r = omega (arith, w.short, r.few)
-
-  pub walking-written : (l m : List ℕ) → m ≡ written (take k (walk b (count b) from)) l → i ≡ 0 → m ≡ written (walk b (count b) from) l
-  walking-written l m e z =
-      let q : take k (walk b (count b) from) ≡ walk b (count b) from = rw (walking-counts z) (take-length (walk b (count b) from)) in
-      e ∙ ap (λ c. written c l) q
+  pub written_all : drop k c ≡ [] → written (take k c) l ≡ written c l
+  written_all e =
+      let n = ap length e in
+      let f : length c ≤ k = omega (arith, length-drop k c) in
+      ap (λ m. written m l) (take_all k c f)

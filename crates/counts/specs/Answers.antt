@@ -1,21 +1,20 @@
--- What counts and the answer of counting are in document 01's terms.
+-- What counts are in document 01's terms.
 -- Assumes nothing.
-use Rattle.std.specs.Prelude.{◌≤◌}
+use Rattle.std.specs.Prelude.{◌≤◌, List, [], ◌∷◌, ℕ, get_or}
 use Rattle.format.specs.Limits.{max_records}
 use Rattle.journal.specs.Refusals.{RecordCounts}
-use Rattle.journal.specs.Calls.{Answer, refused, accepted}
-use Rattle.journal.specs.Reasons.{number_of, place_of}
 use Rattle.counts.specs.declared.Counts.{Counts}
-use Rattle.counts.specs.declared.Counted.{Counted}
-use Rattle.counts.specs.declared.Counted.TheVariants as counted
 
 -- 01: tally
 abbrev pub record_counts_of : Counts → RecordCounts
 record_counts_of c = record { reads = c.reads; writes = c.writes; commits = c.commits; aborts = c.aborts }
 
-abbrev pub answer_of : Counted → Answer RecordCounts
-answer_of (counted.Counts c) = accepted (record_counts_of c)
-answer_of (counted.Refused why) = refused (number_of why) (place_of why)
+-- as four numbers: reads, writes, commits, aborts
+abbrev pub counts_in : List ℕ → Counts
+counts_in l = record { reads = get_or l 0 0; writes = get_or l 1 0; commits = get_or l 2 0; aborts = get_or l 3 0 }
+
+abbrev pub numbers_of : Counts → List ℕ
+numbers_of c = c.reads ∷ c.writes ∷ c.commits ∷ c.aborts ∷ []
 
 -- counts that can rise
 pub record Few (c : Counts) : Type 0 where

@@ -6,15 +6,15 @@ ghost use Rattle.format.specs.Limits.{journal_bytes, max_records};
 ghost use Rattle.journal.specs.Journal.{history};
 ghost use Rattle.journal.specs.Refusals.{counts_by_kind};
 ghost use Rattle.journal.specs.Calls as calls;
-ghost use Rattle.counts.specs.Answers.{record_counts_of, answer_of, Few};
+ghost use Rattle.journal.specs.Outcomes.{answer_of};
+ghost use Rattle.counts.specs.Answers.{record_counts_of, counts_in, numbers_of, Few};
 
-use fields::{Headed, header};
-use format::{Lsn, kind_at};
+use fields::header;
+use format::{Kind, Lsn, kind_at};
 use journal::Reason;
-use lists::one_more;
 
 // Record counts by kind.
-#[derive(Clone, Copy)]
+#[derive(Clone, Copy, Debug, PartialEq, Eq, Default)]
 pub struct Counts {
     pub reads: u32,
     pub writes: u32,
@@ -22,23 +22,39 @@ pub struct Counts {
     pub aborts: u32,
 }
 
-// The counts of a journal. specs/Answers.antt gives document 01's answer for each case.
-#[derive(Clone, Copy)]
-pub enum Counted {
-    Counts(Counts),
-    Refused(Reason),
+impl Counts {
+    // One more record of a kind. Four tests take the place of a match: the processor cannot foresee a record's kind.
+    #[tactic(auto, unfolding(journal::specs::Calls::raised))]
+    pub fn raise(&mut self, kind: u8)
+        requires { Few self.old }
+        ensures { record_counts_of self.new ≡ calls.raised kind (record_counts_of self.old) }
+    {
+        self.reads += u32::from(kind == Kind::Read as u8);
+        self.writes += u32::from(kind == Kind::Write as u8);
+        self.commits += u32::from(kind == Kind::Commit as u8);
+        self.aborts += u32::from(kind == Kind::Abort as u8);
+    }
 }
 
-// One more record of a kind. Four tests take the place of a match: the processor cannot foresee a record's kind.
-pub fn raise(c: Counts, kind: u8) -> Counts
-    requires { Few c }
-    ensures { record_counts_of result ≡ calls.raised kind (record_counts_of c) }
-{
-    Counts {
-        reads: one_more(c.reads, kind, 1),
-        writes: one_more(c.writes, kind, 2),
-        commits: one_more(c.commits, kind, 3),
-        aborts: one_more(c.aborts, kind, 4),
+// Reads, writes, commits and aborts, in this order.
+impl From<[u32; 4]> for Counts {
+    ghost from_gives = { λ numbers counts. counts ≡ counts_in numbers };
+
+    fn from([reads, writes, commits, aborts]: [u32; 4]) -> Counts {
+        Counts {
+            reads,
+            writes,
+            commits,
+            aborts,
+        }
+    }
+}
+
+impl From<Counts> for [u32; 4] {
+    ghost from_gives = { λ counts numbers. numbers ≡ numbers_of counts };
+
+    fn from(counts: Counts) -> [u32; 4] {
+        [counts.reads, counts.writes, counts.commits, counts.aborts]
     }
 }
 
@@ -47,30 +63,18 @@ pub fn count_kinds(journal: &[u8], n: u32) -> Counts
     requires { (journal_bytes n ≤ length journal.now) × (n ≤ max_records) }
     ensures { record_counts_of result ≡ counts_by_kind (history journal.now n) }
 {
-    let mut c = Counts {
-        reads: 0,
-        writes: 0,
-        commits: 0,
-        aborts: 0,
-    };
-    let mut i = 0;
-    while i < n {
-        i += 1;
-        c = raise(c, kind_at(journal, Lsn(i)));
+    let mut counts = Counts::default();
+    for i in 0..n {
+        counts.raise(kind_at(journal, Lsn(i + 1)));
     }
-    c
+    counts
 }
 
 // The counts of a journal or a copy, for posting to go on with, or refusal 1 or 2. No record is checked.
-pub fn count_records(journal: &[u8]) -> Counted
-    ensures { answer_of result ≡ calls.count_records journal.now }
+#[tactic(auto, unfolding(journal::specs::Calls::count_records, journal::specs::Journal::whole))]
+pub fn count_records(journal: &[u8]) -> Result<Counts, Reason>
+    ensures { answer_of record_counts_of result ≡ calls.count_records journal.now }
 {
-    let head = header(journal);
-    let Headed::Size(n, _) = head else {
-        let Headed::Refused(why) = head else {
-            return Counted::Refused(Reason::Header);
-        };
-        return Counted::Refused(why);
-    };
-    Counted::Counts(count_kinds(journal, n))
+    let journal = header(journal)?;
+    Ok(count_kinds(journal.bytes, journal.records))
 }

@@ -1,19 +1,19 @@
 -- The report on the files, by their entries in arrays.
 -- Assumes nothing.
 use mathlib.Core.Path.{◌≡◌, sym, ◌∙◌}
-use mathlib.Core.List.{List}
-use Prim.Native.Nat.{ℕ, ◌-◌, ◌/◌}
-use native.Mathlib.Nat.{sub-zero}
+use mathlib.Core.List.{List, map}
+use Prim.Native.Nat.{ℕ, ◌/◌}
 use lib.ListN.{length, take, replicate}
 use lib.Seq.{take_at}
 use Rattle.lists.specs.Tables.{store}
 use Rattle.lists.proofs.TablesLaws.{store-front}
+use Rattle.format.specs.Bytes.{entries, amount}
 use Rattle.format.specs.Limits.{status_bytes, max_journal_bytes}
 use Rattle.model.specs.History.{Amount}
 use Rattle.journal.specs.Inputs.{inputs_of}
 use Rattle.journal.specs.Calls.{undo}
 use Rattle.decode.specs.Files.{amounts, transactions}
-use Rattle.decode.proofs.FilesLaws.{length-amounts, length-transactions}
+use Rattle.decode.proofs.FilesLaws.{length-numbers, numbers-amounts, numbers-transactions}
 use Rattle.text.specs.Puts.{Put}
 use Rattle.report.specs.Output.{lines_of}
 use Rattle.report.specs.Certified.{Reports}
@@ -22,14 +22,14 @@ use Rattle.day_report.specs.Certified.{ReportsFiles}
 
 -- ---- a list at the front of a longer one
 
-front : {A : Type 0} {v m : List A} {n k : ℕ} (l : List A) → length v ≡ k → n ≡ k → m ≡ store 0 v l → take (n - 0) m ≡ v
-front {v = v} {n = n} l h e g = rw (g, sub-zero, store-front) (take_at v _ n (h ∙ sym e))
+front : {A : Type 0} {v w m : List A} {n k : ℕ} (l : List A) → v ≡ w → length v ≡ k → n ≡ k → m ≡ store 0 v l → take n m ≡ w
+front {v = v} {n = n} l o h e g = rw (g, store-front, ← o) (take_at v _ n (h ∙ sym e))
 
-pub amounts-front : (file : List ℕ) (l : List Amount) {m : List Amount} {n : ℕ} → n ≡ length file / 4 → m ≡ store 0 (amounts file) l → take (n - 0) m ≡ amounts file
-amounts-front file l e g = front l (length-amounts file) e g
+pub amounts-front : (file : List ℕ) (l : List Amount) {m : List Amount} {n : ℕ} → n ≡ length file / 4 → m ≡ store 0 (map amount (entries 4 file)) l → take n m ≡ amounts file
+amounts-front file l e g = front l (numbers-amounts file) (length-numbers amount 4 file) e g
 
-pub transactions-front : (file l : List ℕ) {m : List ℕ} {n : ℕ} → n ≡ length file / 2 → m ≡ store 0 (transactions file) l → take (n - 0) m ≡ transactions file
-transactions-front file l e g = front l (length-transactions file) e g
+pub transactions-front : (file l : List ℕ) {m : List ℕ} {n : ℕ} → n ≡ length file / 2 → m ≡ store 0 (map (λ n. n) (entries 2 file)) l → take n m ≡ transactions file
+transactions-front file l e g = front l (numbers-transactions file) (length-numbers (λ n. n) 2 file) e g
 
 -- ---- the report on them, with marks and paper of zeros
 

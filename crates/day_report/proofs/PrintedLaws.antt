@@ -2,18 +2,12 @@
 -- Assumes nothing.
 use mathlib.Core.Path.{◌≡◌}
 use mathlib.Core.List.{List}
-use Prim.Native.Nat.{ℕ, ◌-◌}
-use native.Mathlib.Nat.{sub-zero}
-use lib.ListN.{take}
+use Prim.Native.Nat.{ℕ}
 use Rattle.decode.specs.Files.{read_part}
 use Rattle.text.specs.Puts.{Put}
 use Rattle.day_report.specs.Output.{report_of}
 use Rattle.day_report.specs.Printed.{files_report}
 use Rattle.day_report.specs.Certified.{ReportsFiles}
-
--- a part lent from the front, in the form that a call has it
-pub read_of-part : (n : ℕ) (file : List ℕ) → take n file ≡ read_part file → take (n - 0) file ≡ read_part file
-read_of-part n file e = rw sub-zero e
 
 -- the report on the parts that are read
 module _ (journal table bad : List ℕ) {j t b : List ℕ} (ej : j ≡ read_part journal) (et : t ≡ read_part table) (eb : b ≡ read_part bad) where

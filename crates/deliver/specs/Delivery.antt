@@ -8,12 +8,8 @@ use Rattle.journal.specs.Inputs.{Inputs}
 use Rattle.journal.specs.Journal.{count, items, history}
 use Rattle.journal.specs.Orders.{capacity_order, Refusal, decide}
 use Rattle.journal.specs.Copy.{unchanged, copy_surviving}
-use Rattle.journal.specs.Results.{status_vector, UndoResult, result}
+use Rattle.journal.specs.Results.{UndoResult, result}
 use Rattle.arrays.specs.Arrays.{Ready, ends_of}
-
--- a fate for each transaction number: 1 surviving, 2 undone, 0 neither
-abbrev pub Fates : List ℕ → Type 0
-Fates fates = fates ≡ status_vector (coded 2 fates) (coded 1 fates)
 
 -- the result of the transactions of fate 1, where only 14 is left to decide
 unfoldable pub delivered : Inputs → List ℕ → List ℕ → List ℕ → UndoResult
@@ -22,11 +18,10 @@ delivered d fates status out =
     let v : Option Refusal = decide (capacity_order out (length (copy_surviving unchanged k d.journal))) in
     result unchanged (coded 2 fates) k v d status out
 
--- all n records passed, of m items; the end and the fate of each transaction; room for the statuses
-pub record Deliverable (b : List ℕ) (n m : ℕ) (ends fates status : List ℕ) : Type 0 where
+-- all n records passed, of m items; the end of each transaction; room for the statuses
+pub record Deliverable (b : List ℕ) (n m : ℕ) (ends status : List ℕ) : Type 0 where
   pub ready : Ready b n
   pub counted : n ≡ count b
   pub keys : m ≡ items b
   pub ended : ends ≡ ends_of (history b n)
-  pub fated : Fates fates
   pub status_length : length status ≡ status_bytes

@@ -9,9 +9,10 @@ use native.Mathlib.Nat.{add-zero}
 use lib.Dec.{eqb}
 use lib.ListN.{length}
 use borrow.Author.Tests.{eqb-true}
+use Rattle.std.proofs.lemmas.Bool.{and_from, not_from_false}
 use Rattle.lists.specs.Search.{any, keep, member}
 use Rattle.lists.specs.Tables.{count_if}
-use Rattle.lists.proofs.BoolLaws.{by_cases, or_cases, and_left, and_both, not_of_false}
+use Rattle.lists.proofs.BoolLaws.{by_cases, or_cases, and_left}
 use Rattle.lists.proofs.MemberLaws.{member-append, member-keep}
 use Rattle.lists.proofs.TablesLaws.{count_if-ext, count_if-add, count_if-none}
 use Rattle.model.specs.History.{committed, aborted}
@@ -182,7 +183,7 @@ module _ (v : Inputs) (day : Day v) where
           by_cases (any (undone_by s) ds)
           (λ e. and_left (committed (whole b) s) _ (sym (h.undone_set s) ∙ e))
           (λ e.
-          let i : member s rest ≡ true = member-keep (λ v. not (any (undone_by v) ds)) s l ∙ and_both _ _ (not_of_false _ e) m in
+          let i : member s rest ≡ true = member-keep (λ v. not (any (undone_by v) ds)) s l ∙ and_from _ _ (not_from_false _ e) m in
           let k = (clear-accepting (repaired_inputs a v) rest status out clear).names s i in
           and_left (committed (whole b) s) _ (sym (committed-second v day.bytes checks a rest s) ∙ k))
 

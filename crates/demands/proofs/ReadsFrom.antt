@@ -9,8 +9,9 @@ use native.Mathlib.Omega.{arith}
 use lib.Dec.{eqb}
 use lib.ListN.{length}
 use borrow.Author.Tests.{eqb-true, eq-eqb}
+use Rattle.std.proofs.lemmas.Bool.{and_from, or_left, or_right}
 use Rattle.lists.specs.Search.{any, latest}
-use Rattle.lists.proofs.BoolLaws.{by_cases, or_left, or_right, or_cases, and_left, and_right, and_both, clash}
+use Rattle.lists.proofs.BoolLaws.{by_cases, or_cases, and_left, and_right, clash}
 use Rattle.lists.proofs.SearchLaws.{any_some, latest-none}
 use Rattle.model.specs.History.{Op, History, Amount, Tag, read, write, commit, abort, other, tx_of, write_of, write_to, commit_of, abort_of, end_of, committed, aborted, ended}
 use Rattle.model.specs.Undo.{is_source, Upto, all, more, reads_from, source_by, visible_to}
@@ -64,9 +65,9 @@ module _ (f : Op → Bool) where
 module _ (p : History) (s x : ℕ) where
   source-passes : {w : Op} → Source p s x w → source_by is_source (visible_to p s) x w ≡ true
   source-passes (by_itself {i} {b} {a}) =
-      and_both _ _ (and_both _ _ (eq-eqb x x refl) (or_left (eqb s s) (committed p s) (eq-eqb s s refl))) (is_source-write i s x b a)
+      and_from _ _ (and_from _ _ (eq-eqb x x refl) (or_left (eqb s s) (committed p s) (eq-eqb s s refl))) (is_source-write i s x b a)
   source-passes (by-committed {i} {v} {b} {a} c) =
-      and_both _ _ (and_both _ _ (eq-eqb x x refl) (or_right (eqb s v) (committed p v) c)) (is_source-write i v x b a)
+      and_from _ _ (and_from _ _ (eq-eqb x x refl) (or_right (eqb s v) (committed p v) c)) (is_source-write i v x b a)
 
   passes-source : (w : Op) → source_by is_source (visible_to p s) x w ≡ true → Source p s x w
   passes-source (read i v y) e = clash e refl

@@ -8,9 +8,10 @@ use native.Mathlib.Omega.{arith}
 use lib.Dec.{eqb, ltb}
 use lib.ListN.{length, get_or, get_or-eq_default}
 use borrow.Author.Tests.{eqb-true, eq-eqb, ltb-true, ltb-false, le-ltb, not-true}
+use Rattle.std.proofs.lemmas.Bool.{and_from}
 use Rattle.lists.specs.Search.{member}
 use Rattle.lists.specs.Tables.{tabulate}
-use Rattle.lists.proofs.BoolLaws.{by_cases, and_left, and_right, and_both, clash}
+use Rattle.lists.proofs.BoolLaws.{by_cases, and_left, and_right, clash}
 use Rattle.lists.proofs.TablesLaws.{length-tabulate, get_or-tabulate, count_if-ext}
 use Rattle.model.specs.History.{tx_of, committed}
 use Rattle.model.specs.Undo.{is_source, reads_from, reached, undone, surviving, without}
@@ -129,7 +130,7 @@ module _ (d : Inputs) (bad status out : List ℕ) (day : Day d) (clear : Clear (
   status_at-surviving s = by-membership (λ m. eqb m 1 ≡ surviving is_source bad (whole b) s) s (λ c m. rw (c, m)) (λ c m. rw (c, m)) (λ c. rw c)
 
   reached-two : (s : ℕ) → committed (whole b) s ≡ true → member s (reached is_source bad (whole b)) ≡ true → status_at (undo d bad status out) s ≡ 2
-  reached-two s c m = eqb-true _ 2 (status_at-undone s ∙ and_both _ _ c m)
+  reached-two s c m = eqb-true _ 2 (status_at-undone s ∙ and_from _ _ c m)
 
   two-undone : (s : ℕ) → status_at (undo d bad status out) s ≡ 2 → undone is_source bad (whole b) s ≡ true
   two-undone s e = sym (status_at-undone s) ∙ eq-eqb _ 2 e
@@ -172,7 +173,7 @@ module _ (d : Inputs) (bad status out : List ℕ) (day : Day d) (clear : Clear (
       record {
         removable = record {
           committed = λ s e. and_left (committed (whole b) s) _ (sym (status_at-undone s) ∙ e);
-          lists = λ s m. status_at-undone s ∙ and_both _ _ (accepting.names s m) (reached-list is_source bad s (whole b) m);
+          lists = λ s m. status_at-undone s ∙ and_from _ _ (accepting.names s m) (reached-list is_source bad s (whole b) m);
           keeps = λ i s x p u c n.
               let m : member s (reached is_source bad (whole b)) ≡ false = not-reached s c (sym (status_at-undone s) ∙ n) in
               ap (λ (g : ℕ → Bool). reads_from is_source (without g p) s x) (fun_ext status_at-undone) ∙ reads_from-without is_source bad (whole b) ends_last u (rw (c, m));
@@ -190,7 +191,7 @@ module _ (d : Inputs) (bad status out : List ℕ) (day : Day d) (clear : Clear (
       }
     where
       not-reached : (s : ℕ) → committed (whole b) s ≡ true → undone is_source bad (whole b) s ≡ false → member s (reached is_source bad (whole b)) ≡ false
-      not-reached s c e = by_cases (member s (reached is_source bad (whole b))) (λ m. clash (and_both _ _ c m) e) (λ m. m)
+      not-reached s c e = by_cases (member s (reached is_source bad (whole b))) (λ m. clash (and_from _ _ c m) e) (λ m. m)
 
 pub least-set : LeastSet
 least-set d bad status out n a = let (c, e) = accepted-clear a in rw (← e) (undo-set d bad status out (accepted-day a) c)

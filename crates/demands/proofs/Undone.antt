@@ -10,8 +10,9 @@ use lib.Dec.{eqb}
 use lib.ListN.{length, get_or, drop}
 use lib.Seq.{take_at, drop_at}
 use borrow.Author.Tests.{eqb-true, eq-eqb, ltb-false, le-ltb, not-false}
+use Rattle.std.proofs.lemmas.Bool.{and_from, not_from_false}
 use Rattle.lists.specs.Search.{any, member}
-use Rattle.lists.proofs.BoolLaws.{by_cases, or_cases, and_both, not_of_false, clash}
+use Rattle.lists.proofs.BoolLaws.{by_cases, or_cases, clash}
 use Rattle.lists.proofs.SearchLaws.{any-mono}
 use Rattle.lists.proofs.MemberLaws.{member-at, member-place}
 use Rattle.format.specs.Layout.{record_at}
@@ -86,7 +87,7 @@ module _ (d : Inputs) (bad status out : List ℕ) where
         finished = λ s e.
             let (l, h) = tx-range b k.sound s e in
             by_cases (ended (whole b) s) (λ f. f)
-            (λ f. clash (and_both _ _ e (not_of_false _ f)) (tried-clear 11 _ 1 1024 actives s (omega arith) (omega arith)));
+            (λ f. clash (and_from _ _ e (not_from_false _ f)) (tried-clear 11 _ 1 1024 actives s (omega arith) (omega arith)));
       }
 
   pub accepting-clear : Checks d → Finished b → Accepting b bad status out → Clear (undo_order d bad status out (length (copy bad b)))

@@ -1,16 +1,11 @@
--- Refusals 12 and 13 from the working arrays, and what a journal has that take-back does not refuse by 1 to 11.
+-- Refusals 12 and 13 from the ends of transactions, and the orders up to 11.
 -- Assumes nothing.
-use Rattle.std.specs.Prelude.{◌≡◌, Bool, not, List, [], ◌∷◌, ℕ}
-use Rattle.std.proofs.Math.Option.{none}
+use Rattle.std.specs.Prelude.{Bool, not, List, [], ◌∷◌, ℕ}
 use Rattle.lists.specs.Tables.{coded}
 use Rattle.journal.specs.Inputs.{Inputs}
-use Rattle.journal.specs.Journal.{count, items, history}
 use Rattle.journal.specs.Refusals.{still_active}
 use Rattle.journal.specs.Orders.{Order, in_turn, open_order, table_order, records_order, active_order, known_order, status_order}
-use Rattle.journal.specs.Orders.{check_order, decide}
-use Rattle.fields.specs.declared.Headed.{Headed}
-use Rattle.fields.specs.declared.Headed.TheVariants as headed
-use Rattle.arrays.specs.Arrays.{Ready, ends_of}
+use Rattle.journal.specs.Orders.{check_order}
 
 -- 12 from the ends: s names a transaction without a commit
 unfoldable pub unknown_in : List ℕ → ℕ → Bool
@@ -31,16 +26,3 @@ ended_order b = in_turn (records_order b ∷ active_order (still_active b) ∷ [
 -- the same as examined_order without 10
 unfoldable pub unsettled_order : Inputs → Order
 unsettled_order d = in_turn (open_order d.journal ∷ table_order d ∷ ended_order d.journal ∷ [])
-
--- nothing of an order holds: n records, m items, and the end of each transaction
-pub record Examined (o : Order) (b : List ℕ) (n m : ℕ) (ends : List ℕ) : Type 0 where
-  pub ready : Ready b n
-  pub counted : n ≡ count b
-  pub keys : m ≡ items b
-  pub ended : ends ≡ ends_of (history b n)
-  pub passed : decide o ≡ none
-
--- the same, where the counts are answered
-abbrev pub ExaminedIf : Headed → Order → List ℕ → List ℕ → Type 0
-ExaminedIf (headed.Size n m) o b ends = Examined o b n m ends
-ExaminedIf (headed.Refused why) o b ends = Unit {0}

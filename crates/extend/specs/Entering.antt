@@ -1,6 +1,7 @@
 -- What writing one record more leans on, and the table as an abort restores it.
 -- Assumes nothing.
-use Rattle.std.specs.Prelude.{◌≡◌, false, cond, ◌&&◌, List, ℕ, ◌+◌, ◌<◌, ◌≤◌, eqb, length, set}
+use Rattle.std.specs.Prelude.{◌≡◌, false, cond, ◌&&◌, Option, None, Some, List, ℕ, ◌+◌, ◌<◌, ◌≤◌, eqb, length, set}
+use Rattle.format.specs.declared.Lsn.{Lsn}
 use Rattle.format.specs.declared.Record.{Record}
 use Rattle.format.specs.Limits.{record_bytes, journal_bytes, max_records}
 use Rattle.model.specs.History.{Amount}
@@ -9,6 +10,11 @@ use Rattle.journal.specs.Refusals.{malformed}
 use Rattle.arrays.specs.Arrays.{Ready}
 use Rattle.counts.specs.declared.Counts.{Counts}
 use Rattle.counts.specs.Answers.{Few}
+
+-- the number of a record, 0 for none
+abbrev pub lsn_of : Option Lsn → ℕ
+lsn_of None = 0
+lsn_of (Some i) = i.0
 
 -- the table with the before image of record r, if it is a write of transaction s
 unfoldable pub restored_by : ℕ → Record → List Amount → List Amount

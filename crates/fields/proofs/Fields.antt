@@ -1,17 +1,16 @@
 -- Amounts compared by their bits, the layout of the head and of a record, test by test.
 -- Assumes nothing.
-use mathlib.Core.Path.{◌≡◌, refl, sym, ◌∙◌, ap}
-use mathlib.Core.Bool.{Bool, false≢true, true, false, cond, not, ◌&&◌, ◌||◌, and_assoc}
+use mathlib.Core.Path.{◌≡◌, sym, ◌∙◌, ap}
+use mathlib.Core.Bool.{Bool, false≢true, true, false, cond, ◌&&◌}
 use mathlib.Core.List.{List}
 use mathlib.Core.Option.{none, some}
 use Prim.Native.Nat.{ℕ, ◌+◌, ◌*◌, ◌<◌, ◌≤◌}
 use lib.IntN.{pos}
 use lib.Dec.{eqb, leb, ltb}
 use lib.ListN.{length}
-use borrow.Author.Tests.{eq-eqb, ne_eqb, lt-ltb, le-ltb, le-leb, lt-leb, leb-true, ltb-true, not-false}
+use borrow.Author.Tests.{eq-eqb, ne_eqb, lt-ltb, le-ltb, leb-true, ltb-true, not-false}
 use mir.Syntax.{w32}
-use mir.Val.{to_z, of_z, SFits}
-use mir.ValLaws.{to_z-of_z}
+use mir.Val.{of_z, SFits}
 use Rattle.lists.specs.Search.{or_else}
 use Rattle.lists.proofs.BoolLaws.{by_cases, and_left, and_right, clash}
 use Rattle.format.specs.declared.Record.{Record}
@@ -32,62 +31,6 @@ same_bits a b f g =
     by_cases (same_amount a b)
     (λ e. rw e (eq-eqb _ _ (ap (of_z w32) (same-eq a b e))))
     (λ e. rw e (ne_eqb (of_z w32 a) (of_z w32 b) (λ q. clash (ap (same_amount a) (sym (sym (amount-bits f) ∙ ap amount q ∙ amount-bits g)) ∙ same_refl a) e)))
-
-not-not : (a : Bool) → a ≡ not (not a)
-not-not true = refl
-not-not false = refl
-
-and-cond : (a b : Bool) → a && b ≡ cond a b false
-and-cond true b = refl
-and-cond false b = refl
-
--- ---- the kind of an end
-
-module _ (k : ℕ) where
-  pub end-commit : k ≡ 3 → true ≡ (eqb k 3 || eqb k 4)
-  end-commit e = rw e
-
-  pub end-abort : k ≡ 4 → true ≡ (eqb k 3 || eqb k 4)
-  end-abort e = rw e
-
-  pub end-other : (k ≡ 3 → ⊥) → (k ≡ 4 → ⊥) → false ≡ (eqb k 3 || eqb k 4)
-  end-other a b = rw (ne_eqb k 3 a, ne_eqb k 4 b)
-
--- ---- a record
-
-module _ (n : ℕ) (r : Record) where
-  pub formed-reserved : (r.reserved ≡ 0 → ⊥) → false ≡ not (malformed n r)
-  unfolding malformed
-  formed-reserved h = rw (ne_eqb r.reserved 0 h)
-
-  pub formed-low : r.reserved ≡ 0 → tx_in r < 1 → false ≡ not (malformed n r)
-  unfolding malformed
-  formed-low z h = rw (z, lt-leb 1 (tx_in r) h)
-
-  pub formed-high : r.reserved ≡ 0 → 1 ≤ tx_in r → 1024 < tx_in r → false ≡ not (malformed n r)
-  unfolding malformed
-  formed-high z l h = rw (z, le-leb 1 (tx_in r) l, lt-leb (tx_in r) 1024 h)
-
-  module _ (z : r.reserved ≡ 0) (l : 1 ≤ tx_in r) (u : tx_in r ≤ 1024) where
-    formed-body : (h : Bool) → h ≡ body_right n r → h ≡ not (malformed n r)
-    unfolding malformed
-    formed-body h e = e ∙ rw (z, le-leb 1 (tx_in r) l, le-leb (tx_in r) 1024 u) (not-not (body_right n r))
-
-    pub formed-read : (h a : Bool) → r.kind ≡ 1 → a ≡ same_amount r.before (pos 0) && same_amount r.after (pos 0) → h ≡ ltb r.item.0 n && a → h ≡ not (malformed n r)
-    formed-read h a k e g = formed-body h (g ∙ rw (k, e) (sym (and_assoc (ltb r.item.0 n) _ _)))
-
-    pub formed-write : r.kind ≡ 2 → ltb r.item.0 n ≡ not (malformed n r)
-    formed-write k = formed-body _ (rw k)
-
-    pub formed-end : (h e g a : Bool) → (r.kind ≡ 1 → ⊥) → (r.kind ≡ 2 → ⊥) → e ≡ (eqb r.kind 3 || eqb r.kind 4)
-        → a ≡ same_amount r.before (pos 0) && same_amount r.after (pos 0) → g ≡ eqb r.item.0 0 && a → h ≡ e && g
-        → h ≡ not (malformed n r)
-    formed-end h e g a p q i j k l =
-        formed-body h
-        (l
-        ∙ ap (e &&◌) (k ∙ ap (eqb r.item.0 0 &&◌) j ∙ sym (and_assoc (eqb r.item.0 0) _ _))
-        ∙ and-cond e (eqb r.item.0 0 && same_amount r.before (pos 0) && same_amount r.after (pos 0))
-        ∙ rw (ne_eqb r.kind 1 p, ne_eqb r.kind 2 q, i))
 
 -- ---- the fields of a record that is not malformed
 
@@ -117,42 +60,16 @@ module _ (n : ℕ) (r : Record) (f : malformed n r ≡ false) where
 
 -- ---- the head
 
-module _ (r : Record) where
-  pub head-kind : (r.kind ≡ 0 → ⊥) → false ≡ head_right r
-  head-kind h = rw (ne_eqb r.kind 0 h)
-
-  module _ (k : r.kind ≡ 0) where
-    pub head-reserved : (r.reserved ≡ 0 → ⊥) → false ≡ head_right r
-    head-reserved h = rw (k, ne_eqb r.reserved 0 h)
-
-    module _ (z : r.reserved ≡ 0) where
-      pub head-transaction : (tx_in r ≡ 0 → ⊥) → false ≡ head_right r
-      head-transaction h = rw (k, z, ne_eqb (tx_in r) 0 h)
-
-      module _ (t : tx_in r ≡ 0) where
-        pub head-records : 3200 < r.next.0 → false ≡ head_right r
-        head-records h = rw (k, z, t, lt-leb r.next.0 3200 h)
-
-        module _ (n : r.next.0 ≤ 3200) where
-          pub head-no-items : r.item.0 < 1 → false ≡ head_right r
-          head-no-items h = rw (k, z, t, le-leb r.next.0 3200 n, lt-leb 1 r.item.0 h)
-
-          pub head-items : 1 ≤ r.item.0 → 1024 < r.item.0 → false ≡ head_right r
-          head-items l h = rw (k, z, t, le-leb r.next.0 3200 n, le-leb 1 r.item.0 l, lt-leb r.item.0 1024 h)
-
-          pub head-amounts : 1 ≤ r.item.0 → r.item.0 ≤ 1024 → (h : Bool) → h ≡ same_amount r.before (pos 0) && same_amount r.after (pos 0) → h ≡ head_right r
-          head-amounts l u h e = e ∙ rw (k, z, t, le-leb r.next.0 3200 n, le-leb 1 r.item.0 l, le-leb r.item.0 1024 u)
-
-  -- what the head's fields are, where it is right
-  pub head-counts : head_right r ≡ true → (r.next.0 ≤ 3200) × (1 ≤ r.item.0) × (r.item.0 ≤ 1024)
-  head-counts e =
-      let a = eqb r.kind 0 in let b = eqb r.reserved 0 in let c = eqb (tx_in r) 0 in let d = leb r.next.0 3200 in
-      let f = within 1 1024 r.item.0 in let g = same_amount r.before (pos 0) in
-      let e1 = and_left (a && b && c && d && f && g) _ e in
-      let e2 = and_left (a && b && c && d && f) _ e1 in
-      let e3 = and_left (a && b && c && d) _ e2 in
-      let w = and_right (a && b && c && d) _ e2 in
-      (leb-true _ _ (and_right (a && b && c) _ e3), leb-true _ _ (and_left (leb 1 r.item.0) _ w), leb-true _ _ (and_right (leb 1 r.item.0) _ w))
+-- what its fields are, where it is right
+pub head-counts : (r : Record) → head_right r ≡ true → (r.next.0 ≤ 3200) × (1 ≤ r.item.0) × (r.item.0 ≤ 1024)
+head-counts r e =
+    let a = eqb r.kind 0 in let b = eqb r.reserved 0 in let c = eqb (tx_in r) 0 in let d = leb r.next.0 3200 in
+    let f = within 1 1024 r.item.0 in let g = same_amount r.before (pos 0) in
+    let e1 = and_left (a && b && c && d && f && g) _ e in
+    let e2 = and_left (a && b && c && d && f) _ e1 in
+    let e3 = and_left (a && b && c && d) _ e2 in
+    let w = and_right (a && b && c && d) _ e2 in
+    (leb-true _ _ (and_right (a && b && c) _ e3), leb-true _ _ (and_left (leb 1 r.item.0) _ w), leb-true _ _ (and_right (leb 1 r.item.0) _ w))
 
 -- ---- 1 and 2
 
@@ -196,18 +113,3 @@ pub read-size : (b : List ℕ) (r : Record) (h : Bool) → 20 ≤ length b → r
     → ◌≡◌ {A = Answer Size} (accepted (record { records = r.next.0; items = r.item.0 })) (answered (decide (open_order b)) (record { records = count b; items = items b }))
 unfolding count items
 read-size b r h l e f g t = rw e (read_right b _ r h l e f g t)
-
--- ---- two amounts, each read back from its bits
-
-module _ (y z : Amount) (f : SFits w32 y) where
-  pub both_zero : SFits w32 z → (g h : Bool) → g ≡ same_amount (to_z w32 (of_z w32 y)) (pos 0) → g ≡ true → h ≡ same_amount (to_z w32 (of_z w32 z)) (pos 0)
-      → h ≡ same_amount y (pos 0) && same_amount z (pos 0)
-  both_zero k g h e t q =
-      let a : g ≡ same_amount y (pos 0) = e ∙ ap (λ w. same_amount w (pos 0)) (to_z-of_z w32 y f) in
-      let b : h ≡ same_amount z (pos 0) = q ∙ ap (λ w. same_amount w (pos 0)) (to_z-of_z w32 z k) in
-      rw (← a, t) b
-
-  pub one_not_zero : (g : Bool) → g ≡ same_amount (to_z w32 (of_z w32 y)) (pos 0) → g ≡ false → false ≡ same_amount y (pos 0) && same_amount z (pos 0)
-  one_not_zero g e t =
-      let a : g ≡ same_amount y (pos 0) = e ∙ ap (λ w. same_amount w (pos 0)) (to_z-of_z w32 y f) in
-      rw (← a, t)

@@ -3,7 +3,7 @@
 use mathlib.Core.Path.{◌≡◌, refl, sym, ap, ◌∙◌}
 use mathlib.Core.List.{List, [], ◌∷◌, ◌++◌, append_assoc, flat_map}
 use Prim.Native.Nat.{ℕ, zero, suc, ◌+◌, ◌*◌, ◌/◌, ◌%◌, ◌^◌, ◌≤◌, ◌<◌}
-use native.Mathlib.Nat.{div-eq_of_lt, add-div_left, mul-suc, mul-zero}
+use native.Mathlib.Nat.{div-eq_of_lt, add-div_left, mul-suc, mul-zero, div-one, div-div-eq-div-mul, pow-suc, pow-succ', mul_left_comm}
 use native.Mathlib.Numerals.{add-one, add-two, add-three}
 use native.Mathlib.Omega.{arith, pow_step}
 use lib.IntN.{ℤ}
@@ -12,6 +12,8 @@ use lib.Seq.{take_at, drop_at, drop-drop, take-nil}
 use mir.Syntax.{w32}
 use mir.Val.{SFits}
 use mir.ValLaws as vals
+use Rattle.std.proofs.lemmas.List.{get_or-drop}
+use Rattle.std.specs.Int.{byte_at, byte_worth, bytes_low_first, sum_through}
 use Rattle.lists.specs.Tables.{store}
 use Rattle.lists.proofs.TablesLaws.{tabulate-zero, tabulate-suc, tabulate-ext, sets-store}
 use Rattle.format.specs.Bytes.{Bytes, none, byte, value, bytes, entry, entries, amount, bits}
@@ -98,24 +100,39 @@ value_none b = refl
 pub value-one : (b : List ℕ) (a : ℕ) → value (take 1 (drop a b)) ≡ get_or b a 0
 value-one b a = value-step b a 0 ∙ rw (value_none (drop (suc a) b)) (omega arith)
 
--- fields of two and of four bytes, read byte by byte
-pub value-two : (b : List ℕ) (a : ℕ) → value (take 2 (drop a b)) ≡ get_or b a 0 + 256 * get_or b (a + 1) 0
-value-two b a = value-step b a 1 ∙ rw (value-one b (suc a), add-one a)
+-- .. and at its highest byte
+value-last : (b : List ℕ) (w : ℕ) → value (take (suc w) b) ≡ value (take w b) + get_or b w 0 * 256 ^ w
+unfolding value
+value-last [] w = rw (take-nil w) (omega arith)
+value-last (x ∷ b) zero = omega arith
+value-last (x ∷ b) (suc w) =
+    let top : get_or b w 0 * 256 ^ suc w ≡ 256 * (get_or b w 0 * 256 ^ w) = ap (λ k. get_or b w 0 * k) (pow-succ' 256 w) ∙ mul_left_comm (get_or b w 0) 256 (256 ^ w) in
+    rw (value-last b w, top) (omega arith)
 
-pub value-four : (b : List ℕ) (a : ℕ) → value (take 4 (drop a b)) ≡ get_or b a 0 + 256 * get_or b (a + 1) 0 + 65536 * get_or b (a + 2) 0 + 16777216 * get_or b (a + 3) 0
-value-four b a =
-    rw (add-one a, add-two a, add-three a)
-    (omega (arith, value-step b a 3, value-step b (suc a) 2, value-step b (suc (suc a)) 1, value-one b (suc (suc (suc a)))))
+-- byte i of those from `at` on
+abbrev pub byte_from : List ℕ → ℕ → ℕ → ℕ
+byte_from b at zero = get_or b at 0
+byte_from b at (suc i) = get_or b (at + suc i) 0
 
--- .. and written byte by byte
-pub two-stored : (at x : ℕ) (l : List ℕ) → at + 2 ≤ length l → set (set l at (x % 256)) (at + 1) (x / 256 % 256) ≡ store at (bytes 2 x) l
+-- what std's `from_le_bytes` sums up, and what its `to_le_bytes` lists
+pub summed : (b : List ℕ) (at w : ℕ) → sum_through (λ i. byte_worth i (byte_from b at i)) w ≡ value (take (suc w) (drop at b))
+summed b at zero = sym (value-one b at)
+summed b at (suc w) = rw (summed b at w, ← get_or-drop at b (suc w) 0) (sym (value-last (drop at b) (suc w)))
+
+low_first : (i w n : ℕ) → bytes_low_first i w n ≡ bytes w (n / 256 ^ i)
 unfolding bytes
-two-stored at x l h = rw (add-one at) (sets-store at (bytes 2 x) l h)
+low_first i zero n = refl
+low_first i (suc w) n =
+    let here : byte_at i n ≡ n / 256 ^ i % 256 = first i in
+    let rest : n / 256 ^ suc i ≡ n / 256 ^ i / 256 = ap (λ k. n / k) (pow-suc 256 i) ∙ sym (div-div-eq-div-mul n (256 ^ i) 256) in
+    rw (here, low_first (suc i) w n, rest) refl
+  where
+    first : (i : ℕ) → byte_at i n ≡ n / 256 ^ i % 256
+    first zero = ap (λ k. k % 256) (sym (div-one n))
+    first (suc i) = refl
 
-pub four-stored : (at x : ℕ) (l : List ℕ) → at + 4 ≤ length l → set (set (set (set l at (x % 256)) (at + 1) (x / 256 % 256)) (at + 2) (x / 256 / 256 % 256)) (at + 3) (x / 256 / 256 / 256 % 256) ≡ store at (bytes 4 x) l
-unfolding bytes
-four-stored at x l h =
-    rw (add-one at, add-two at, add-three at) (sets-store at (bytes 4 x) l h)
+pub listed : (w n : ℕ) → bytes_low_first 0 w n ≡ bytes w n
+listed w n = low_first 0 w n ∙ ap (bytes w) (div-one n)
 
 -- ---- entries
 

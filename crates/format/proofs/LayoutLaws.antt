@@ -8,8 +8,9 @@ use native.Mathlib.Omega.{arith}
 use lib.IntN.{ℤ}
 use lib.ListN.{length, take, drop, get_or, length-append, length-drop, set}
 use lib.Seq.{take_at, drop_at, take_all, take-take, take-add, drop-drop, length-take-le, take-append-le, drop-append-le}
+use Rattle.std.proofs.lemmas.List.{drop-take}
 use Rattle.lists.specs.Tables.{store}
-use Rattle.lists.proofs.TablesLaws.{take-drop, sets-store, store-store, store-all}
+use Rattle.lists.proofs.TablesLaws.{sets-store, store-store, store-all}
 use Rattle.format.specs.declared.Record.{Record}
 use Rattle.format.specs.Bytes.{Bytes, none, value, bytes, amount, bits}
 use Rattle.format.specs.Layout.{layout, parsed, printed, fields, record_with, record_of, bytes_of, record_at, Fitting}
@@ -47,7 +48,7 @@ unfolding parsed
 parsed-take [] n b h = refl
 parsed-take (w ∷ ws) n b h =
     let e : w + (n - w) ≡ n = omega arith in
-    let rest : drop w (take n b) ≡ take (n - w) (drop w b) = rw e at (sym (take-drop w (n - w) b)) in
+    let rest : drop w (take n b) ≡ take (n - w) (drop w b) = rw e at (drop-take w (n - w) b) in
     rw (take-take w n b (omega arith), rest, parsed-take ws (n - w) (drop w b) (omega arith))
 
 -- field k stands behind the fields before it
@@ -182,33 +183,33 @@ pub kind_at : (b : List ℕ) (i : ℕ) → (record_at b i).kind ≡ get_or b (20
 unfolding record_at record_of
 kind_at b i = field_at b i 0 (omega arith) ∙ value-one b (20 * i + 0) ∙ ap (λ k. get_or b k 0) (add-zero (20 * i))
 
-pub reserved-at : (b : List ℕ) (i : ℕ) → (record_at b i).reserved ≡ get_or b (20 * i + 1) 0
+pub reserved_at : (b : List ℕ) (i : ℕ) → (record_at b i).reserved ≡ get_or b (20 * i + 1) 0
 unfolding record_at record_of
-reserved-at b i = field_at b i 1 (omega arith) ∙ value-one b (20 * i + 1)
+reserved_at b i = field_at b i 1 (omega arith) ∙ value-one b (20 * i + 1)
 
-pub transaction-at : (b : List ℕ) (i : ℕ) → (record_at b i).transaction.0 ≡ value (take 2 (drop (20 * i + 2) b))
+pub transaction_at : (b : List ℕ) (i : ℕ) → (record_at b i).transaction.0 ≡ value (take 2 (drop (20 * i + 2) b))
 unfolding record_at record_of
-transaction-at b i = field_at b i 2 (omega arith)
+transaction_at b i = field_at b i 2 (omega arith)
 
-pub next-at : (b : List ℕ) (i : ℕ) → (record_at b i).next.0 ≡ value (take 4 (drop (20 * i + 4) b))
+pub next_at : (b : List ℕ) (i : ℕ) → (record_at b i).next.0 ≡ value (take 4 (drop (20 * i + 4) b))
 unfolding record_at record_of
-next-at b i = field_at b i 3 (omega arith)
+next_at b i = field_at b i 3 (omega arith)
 
-pub item-at : (b : List ℕ) (i : ℕ) → (record_at b i).item.0 ≡ value (take 4 (drop (20 * i + 8) b))
+pub item_at : (b : List ℕ) (i : ℕ) → (record_at b i).item.0 ≡ value (take 4 (drop (20 * i + 8) b))
 unfolding record_at record_of
-item-at b i = field_at b i 4 (omega arith)
+item_at b i = field_at b i 4 (omega arith)
 
 pub before_at : (b : List ℕ) (i : ℕ) → (record_at b i).before ≡ amount (value (take 4 (drop (20 * i + 12) b)))
 unfolding record_at record_of
 before_at b i = ap amount (field_at b i 5 (omega arith))
 
-pub after-at : (b : List ℕ) (i : ℕ) → (record_at b i).after ≡ amount (value (take 4 (drop (20 * i + 16) b)))
+pub after_at : (b : List ℕ) (i : ℕ) → (record_at b i).after ≡ amount (value (take 4 (drop (20 * i + 16) b)))
 unfolding record_at record_of
-after-at b i = ap amount (field_at b i 6 (omega arith))
+after_at b i = ap amount (field_at b i 6 (omega arith))
 
 -- the record made of its fields
 pub record_at-made : (b : List ℕ) (i : ℕ) {t n x : ℕ} {p q : ℤ} → t ≡ value (take 2 (drop (20 * i + 2) b)) → n ≡ value (take 4 (drop (20 * i + 4) b))
     → x ≡ value (take 4 (drop (20 * i + 8) b)) → p ≡ amount (value (take 4 (drop (20 * i + 12) b))) → q ≡ amount (value (take 4 (drop (20 * i + 16) b)))
     → record { kind = get_or b (20 * i) 0; reserved = get_or b (20 * i + 1) 0; transaction = record { 0 = t }; next = record { 0 = n }; item = record { 0 = x }; before = p; after = q } ≡ record_at b i
 record_at-made b i et en ex ep eq =
-    rw (et, en, ex, ep, eq, ← kind_at b i, ← reserved-at b i, ← transaction-at b i, ← next-at b i, ← item-at b i, ← before_at b i, ← after-at b i)
+    rw (et, en, ex, ep, eq, ← kind_at b i, ← reserved_at b i, ← transaction_at b i, ← next_at b i, ← item_at b i, ← before_at b i, ← after_at b i)

@@ -1,3 +1,4 @@
 pub mod Limits
+pub mod Kinds
 pub mod Bytes
 pub mod Layout

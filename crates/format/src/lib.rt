@@ -1,11 +1,15 @@
 // The journal's bytes: little-endian numbers, signed amounts, and the 20-byte record, read and written.
 #![tactic(auto)]
 
-ghost use Rattle.std.specs.Prelude.{◌≡◌, ◌+◌, ◌*◌, ◌≤◌, ◌<◌, length, take, drop};
+ghost use Rattle.std.specs.Prelude.{◌≡◌, ℕ, ◌+◌, ◌*◌, ◌≤◌, ◌<◌, length, take, drop};
+ghost use Rattle.std.proofs.Common.{rules};
 ghost use Rattle.lists.specs.Tables.{store};
 ghost use Rattle.format.specs.Bytes.{value, bytes, amount, bits};
 ghost use Rattle.format.specs.Layout.{record_at, bytes_of};
 ghost use Rattle.format.specs.Limits.{record_bytes, journal_bytes};
+ghost use Rattle.format.specs.Kinds.{Decodes};
+
+use lists::Number;
 
 // Document 01's numbers: the bytes of a record, and the highest record count, item count and transaction number.
 pub const RECORD_BYTES: usize = 20;
@@ -37,17 +41,73 @@ pub const MAX_JOURNAL_BYTES: usize = RECORD_BYTES * RECORD_SLOTS;
 
 // The three numberings of document 01: record numbers (log sequence numbers), sale numbers (transaction ids) and item numbers
 // (keys).
-#[derive(Clone, Copy)]
+#[derive(Clone, Copy, Debug, PartialEq, Eq)]
 pub struct Lsn(pub u32);
 
-#[derive(Clone, Copy)]
+#[derive(Clone, Copy, Debug, PartialEq, Eq)]
 pub struct TransactionId(pub u16);
 
-#[derive(Clone, Copy)]
+#[derive(Clone, Copy, Debug, PartialEq, Eq)]
 pub struct Key(pub u32);
 
+impl Number for Lsn {
+    ghost number = { λ i. i.0 };
+
+    fn index(self) -> usize {
+        let Lsn(i) = self;
+        i as usize
+    }
+}
+
+impl Number for TransactionId {
+    ghost number = { λ s. s.0 };
+
+    fn index(self) -> usize {
+        let TransactionId(s) = self;
+        s as usize
+    }
+}
+
+impl Number for Key {
+    ghost number = { λ x. x.0 };
+
+    fn index(self) -> usize {
+        let Key(x) = self;
+        x as usize
+    }
+}
+
+// The kinds of records (01, "The journal"). A record holds the code as a byte, which may be of no kind: rule 4 refuses it then.
+#[derive(Clone, Copy, Debug, PartialEq, Eq)]
+pub enum Kind {
+    Read = 1,
+    Write = 2,
+    Commit = 3,
+    Abort = 4,
+}
+
+// A code of no kind.
+#[derive(Clone, Copy, Debug, PartialEq, Eq)]
+pub struct UnknownKind(pub u8);
+
+impl TryFrom<u8> for Kind {
+    type Error = UnknownKind;
+
+    ghost try_from_gives = { Decodes };
+
+    fn try_from(code: u8) -> Result<Self, UnknownKind> {
+        match code {
+            1 => Ok(Kind::Read),
+            2 => Ok(Kind::Write),
+            3 => Ok(Kind::Commit),
+            4 => Ok(Kind::Abort),
+            _ => Err(UnknownKind(code)),
+        }
+    }
+}
+
 // The fields of 20 bytes. In record 0, the head, `next` is the record count and `item` the item count.
-#[derive(Clone, Copy)]
+#[derive(Clone, Copy, Debug, PartialEq, Eq)]
 pub struct Record {
     pub kind: u8,
     pub reserved: u8,
@@ -58,68 +118,89 @@ pub struct Record {
     pub after: i32,
 }
 
-fn wide(x: u8) -> u32
-    ensures { (result ≡ x) × (result < 256) }
-{
-    x as u32
+// A number that stands in WIDTH bytes, lowest first.
+pub trait Wire: Copy {
+    ghost WIDTH: { ℕ };
+
+    ghost of_bits: { ℕ → Self };
+
+    ghost bits_of: { Self → ℕ };
+
+    const WIDTH: usize;
+
+    // The number in the bytes from `at`.
+    fn read(s: &[u8], at: usize) -> Self
+        requires { at + WIDTH ≤ length s.now }
+        ensures { result ≡ of_bits (value (take WIDTH (drop at s.now))) };
+
+    // Writes the number in the bytes from `at`.
+    fn write(self, out: &mut [u8], at: usize)
+        requires { at + WIDTH ≤ length out.old }
+        ensures { out.new ≡ store at (bytes WIDTH (bits_of self)) out.old };
+
+    ghost some_bytes: { 0 < WIDTH };
 }
 
-// The number in two bytes from `at`.
-pub fn value2(s: &[u8], at: usize) -> u16
-    requires { at + 2 ≤ length s.now }
-    ensures { result ≡ value (take 2 (drop at s.now)) }
-{
-    (wide(s[at]) + 256 * wide(s[at + 1])) as u16
-}
+impl Wire for u16 {
+    ghost WIDTH = { 2 };
 
-// The number in four bytes from `at`.
-pub fn value4(s: &[u8], at: usize) -> u32
-    requires { at + 4 ≤ length s.now }
-    ensures { result ≡ value (take 4 (drop at s.now)) }
-{
-    wide(s[at]) + 256 * wide(s[at + 1]) + 65536 * wide(s[at + 2]) + 16777216 * wide(s[at + 3])
-}
+    ghost of_bits = { λ n. n };
 
-// Writes a number in two bytes from `at`.
-fn put2(out: &mut [u8], at: usize, x: u16)
-    requires { at + 2 ≤ length out.old }
-    ensures { out.new ≡ store at (bytes 2 x) out.old }
-{
-    out[at] = (x % 256) as u8;
-    out[at + 1] = (x / 256 % 256) as u8;
-}
+    ghost bits_of = { λ n. n };
 
-// Writes a number in four bytes from `at`.
-pub fn put4(out: &mut [u8], at: usize, x: u32)
-    requires { at + 4 ≤ length out.old }
-    ensures { out.new ≡ store at (bytes 4 x) out.old }
-{
-    out[at] = (x % 256) as u8;
-    out[at + 1] = (x / 256 % 256) as u8;
-    out[at + 2] = (x / 256 / 256 % 256) as u8;
-    out[at + 3] = (x / 256 / 256 / 256 % 256) as u8;
-}
+    const WIDTH: usize = 2;
 
-// The amount with the bits x.
-pub fn amount_of(x: u32) -> i32
-    ensures { result ≡ amount x }
-{
-    if x < 2147483648 {
-        x as i32
-    } else {
-        -1 - ((4294967295 - x) as i32)
+    fn read(s: &[u8], at: usize) -> u16 {
+        u16::from_le_bytes([s[at], s[at + 1]])
     }
+
+    fn write(self, out: &mut [u8], at: usize) {
+        let b = self.to_le_bytes();
+        out[at..at + 2].copy_from_slice(&b);
+    }
+
+    ghost some_bytes = { Prim.search rules };
 }
 
-// The bits of an amount.
-pub fn bits_of(x: i32) -> u32
-    ensures { result ≡ bits x }
-{
-    if 0 <= x {
-        x as u32
-    } else {
-        4294967295 - ((-1 - x) as u32)
+impl Wire for u32 {
+    ghost WIDTH = { 4 };
+
+    ghost of_bits = { λ n. n };
+
+    ghost bits_of = { λ n. n };
+
+    const WIDTH: usize = 4;
+
+    fn read(s: &[u8], at: usize) -> u32 {
+        u32::from_le_bytes([s[at], s[at + 1], s[at + 2], s[at + 3]])
     }
+
+    fn write(self, out: &mut [u8], at: usize) {
+        let b = self.to_le_bytes();
+        out[at..at + 4].copy_from_slice(&b);
+    }
+
+    ghost some_bytes = { Prim.search rules };
+}
+
+impl Wire for i32 {
+    ghost WIDTH = { 4 };
+
+    ghost of_bits = { amount };
+
+    ghost bits_of = { bits };
+
+    const WIDTH: usize = 4;
+
+    fn read(s: &[u8], at: usize) -> i32 {
+        u32::read(s, at).cast_signed()
+    }
+
+    fn write(self, out: &mut [u8], at: usize) {
+        self.cast_unsigned().write(out, at);
+    }
+
+    ghost some_bytes = { Prim.search rules };
 }
 
 // Record i of a journal.
@@ -131,37 +212,37 @@ pub fn record_at(journal: &[u8], i: Lsn) -> Record
     Record {
         kind: journal[at],
         reserved: journal[at + 1],
-        transaction: TransactionId(value2(journal, at + 2)),
-        next: Lsn(value4(journal, at + 4)),
-        item: Key(value4(journal, at + 8)),
-        before: amount_of(value4(journal, at + 12)),
-        after: amount_of(value4(journal, at + 16)),
+        transaction: TransactionId(u16::read(journal, at + 2)),
+        next: Lsn(u32::read(journal, at + 4)),
+        item: Key(u32::read(journal, at + 8)),
+        before: i32::read(journal, at + 12),
+        after: i32::read(journal, at + 16),
     }
 }
 
 // The fields of record i, one at a time.
+#[tactic(auto, using(crate::proofs::LayoutLaws::kind_at))]
 pub fn kind_at(journal: &[u8], i: Lsn) -> u8
     requires { journal_bytes i.0 ≤ length journal.now }
     ensures { result ≡ (record_at journal.now i.0).kind }
 {
-    let at = RECORD_BYTES * i.0 as usize;
-    journal[at]
+    journal[RECORD_BYTES * i.0 as usize]
 }
 
+#[tactic(auto, using(crate::proofs::LayoutLaws::transaction_at))]
 pub fn transaction_at(journal: &[u8], i: Lsn) -> TransactionId
     requires { journal_bytes i.0 ≤ length journal.now }
     ensures { result.0 ≡ (record_at journal.now i.0).transaction.0 }
 {
-    let at = RECORD_BYTES * i.0 as usize;
-    TransactionId(value2(journal, at + 2))
+    TransactionId(u16::read(journal, RECORD_BYTES * i.0 as usize + 2))
 }
 
+#[tactic(auto, using(crate::proofs::LayoutLaws::next_at))]
 pub fn next_at(journal: &[u8], i: Lsn) -> Lsn
     requires { journal_bytes i.0 ≤ length journal.now }
     ensures { result.0 ≡ (record_at journal.now i.0).next.0 }
 {
-    let at = RECORD_BYTES * i.0 as usize;
-    Lsn(value4(journal, at + 4))
+    Lsn(u32::read(journal, RECORD_BYTES * i.0 as usize + 4))
 }
 
 // Writes the 20 bytes of a record.
@@ -169,13 +250,11 @@ pub fn put_record(out: &mut [u8], r: Record)
     requires { length out.old ≡ record_bytes }
     ensures { out.new ≡ bytes_of r }
 {
-    let before = bits_of(r.before);
-    let after = bits_of(r.after);
     out[0] = r.kind;
     out[1] = r.reserved;
-    put2(out, 2, r.transaction.0);
-    put4(out, 4, r.next.0);
-    put4(out, 8, r.item.0);
-    put4(out, 12, before);
-    put4(out, 16, after);
+    r.transaction.0.write(out, 2);
+    r.next.0.write(out, 4);
+    r.item.0.write(out, 8);
+    r.before.write(out, 12);
+    r.after.write(out, 16);
 }

@@ -1,6 +1,8 @@
 -- What start's order decides, and what start then answers and writes.
 -- Assumes nothing.
 use mathlib.Core.Path.{◌≡◌, ◌∙◌}
+use mathlib.Core.Bool.{true}
+use mathlib.Core.Logic.{◌⊎◌, inl, inr}
 use mathlib.Core.List.{List}
 use mathlib.Core.Option.{none, some}
 use Prim.Native.Nat.{ℕ, ◌≤◌, ◌<◌}
@@ -28,32 +30,13 @@ past-short : (b : List ℕ) (n : ℕ) → 20 ≤ length b → decide (start_orde
 unfolding start_order short
 past-short b n h = decide-turn-none _ _ (decide-no 1 0 (le-ltb (length b) 20 h)) ∙ decide-one (try 2 0 (bad_items n))
 
-pub no_items : (b : List ℕ) (n : ℕ) → 20 ≤ length b → n < 1 → (refused 2 0 ≡ (start b n).answer) × (b ≡ (start b n).journal)
+pub start-items : (b : List ℕ) (n : ℕ) → 20 ≤ length b → (n < 1) ⊎ ((1 ≤ n) × (1024 < n)) → (refused 2 0 ≡ (start b n).answer) × (b ≡ (start b n).journal)
 unfolding bad_items
-no_items b n h k = refuses b n (past-short b n h ∙ decide-yes 2 0 (simp (lt-leb 1 n k)))
-
-pub many-items : (b : List ℕ) (n : ℕ) → 20 ≤ length b → 1 ≤ n → 1024 < n → (refused 2 0 ≡ (start b n).answer) × (b ≡ (start b n).journal)
-unfolding bad_items
-many-items b n h j k = refuses b n (past-short b n h ∙ decide-yes 2 0 (simp (le-leb 1 n j, lt-leb n 1024 k)))
-
--- the same, clause by clause
-pub answer_truncated : (b : List ℕ) (n : ℕ) → length b < 20 → refused 1 0 ≡ (start b n).answer
-answer_truncated b n h = (start-truncated b n h).0
-
-pub journal_truncated : (b : List ℕ) (n : ℕ) → length b < 20 → b ≡ (start b n).journal
-journal_truncated b n h = (start-truncated b n h).1
-
-pub answer_no_items : (b : List ℕ) (n : ℕ) → 20 ≤ length b → n < 1 → refused 2 0 ≡ (start b n).answer
-answer_no_items b n h k = (no_items b n h k).0
-
-pub journal_no_items : (b : List ℕ) (n : ℕ) → 20 ≤ length b → n < 1 → b ≡ (start b n).journal
-journal_no_items b n h k = (no_items b n h k).1
-
-pub answer_many_items : (b : List ℕ) (n : ℕ) → 20 ≤ length b → 1 ≤ n → 1024 < n → refused 2 0 ≡ (start b n).answer
-answer_many_items b n h j k = (many-items b n h j k).0
-
-pub journal_many_items : (b : List ℕ) (n : ℕ) → 20 ≤ length b → 1 ≤ n → 1024 < n → b ≡ (start b n).journal
-journal_many_items b n h j k = (many-items b n h j k).1
+start-items b n h k = refuses b n (past-short b n h ∙ decide-yes 2 0 (outside k))
+  where
+    outside : (n < 1) ⊎ ((1 ≤ n) × (1024 < n)) → bad_items n ≡ true
+    outside (inl l) = simp (lt-leb 1 n l)
+    outside (inr (l, m)) = simp (le-leb 1 n l, lt-leb n 1024 m)
 
 -- the head is written into the first 20 bytes
 pub started : (b : List ℕ) (n : ℕ) {v : List ℕ} → 20 ≤ length b → 1 ≤ n → n ≤ 1024 → v ≡ bytes_of (head_with 0 n) → (accepted tt ≡ (start b n).answer) × (put_mid 0 20 b v ≡ (start b n).journal)

@@ -2,34 +2,24 @@
 #![tactic(auto)]
 
 ghost use Rattle.std.specs.Prelude.{◌≡◌};
+ghost use Rattle.journal.specs.Outcomes.{answer_of};
 ghost use Rattle.journal.specs.Calls as calls;
-ghost use Rattle.init.specs.Answers.{answer_of};
 
 use format::{Key, Lsn, MAX_ITEMS, RECORD_BYTES, Record, TransactionId};
 use journal::Reason;
 
-// What start answers. specs/Answers.antt gives document 01's answer for each.
-#[derive(Clone, Copy)]
-pub enum Init {
-    Done,
-    Refused(Reason),
-}
-
 // Writes the head of a journal with no records and this many items (document 01, start). Refused, with nothing written: 1 for a
 // buffer of fewer than 20 bytes, then 2 unless there are 1 to 1,024 items.
-#[tactic(auto, using(crate::proofs::Orders::answer_truncated, crate::proofs::Orders::journal_truncated, crate::proofs::Orders::answer_no_items, crate::proofs::Orders::journal_no_items, crate::proofs::Orders::answer_many_items, crate::proofs::Orders::journal_many_items))]
-pub fn start(journal: &mut [u8], items: u32) -> Init
-    ensures answer { answer_of result ≡ (calls.start journal.old items).answer }
+
+pub fn start(journal: &mut [u8], items: u32) -> Result<(), Reason>
+    ensures answer { answer_of (λ u. u) result ≡ (calls.start journal.old items).answer }
     ensures journal { journal.new ≡ (calls.start journal.old items).journal }
 {
     if journal.len() < RECORD_BYTES {
-        return Init::Refused(Reason::Truncated);
+        return Err(Reason::Truncated);
     }
-    if items < 1 {
-        return Init::Refused(Reason::Header);
-    }
-    if MAX_ITEMS < items {
-        return Init::Refused(Reason::Header);
+    if items < 1 || MAX_ITEMS < items {
+        return Err(Reason::Header);
     }
     let head = Record {
         kind: 0,
@@ -41,5 +31,5 @@ pub fn start(journal: &mut [u8], items: u32) -> Init
         after: 0,
     };
     format::put_record(&mut journal[0..RECORD_BYTES], head);
-    Init::Done
+    Ok(())
 }

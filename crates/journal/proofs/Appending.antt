@@ -11,9 +11,10 @@ use lib.ListN.{length, drop, get_or-eq_default}
 use borrow.Author.Tests.{eqb-true, eqb-false, ne_eqb, ltb-true, ltb-false, leb-true, le-ltb}
 use mir.Syntax.{w32}
 use mir.Val.{SFits}
+use Rattle.std.proofs.lemmas.Bool.{not-false}
 use Rattle.lists.specs.Search.{latest}
 use Rattle.lists.specs.Tables.{store, tabulate}
-use Rattle.lists.proofs.BoolLaws.{by_cases, clash, and_right, not-neither}
+use Rattle.lists.proofs.BoolLaws.{by_cases, clash, and_right}
 use Rattle.lists.proofs.TablesLaws.{length-tabulate, get_or-tabulate, length-store, drop-store, tabulate-ext}
 use Rattle.format.specs.declared.Record.{Record}
 use Rattle.format.specs.Bytes.{Bytes, bytes}
@@ -52,7 +53,7 @@ module _ (b : List ℕ) (m : ℕ) (c : Clear (start_order b m)) where
 
   started-items : within 1 1024 m ≡ true
   unfolding bad_items
-  started-items = not-neither _ (clear-start b m c).1
+  started-items = not-false _ (clear-start b m c).1
 
   started-is : (start b m).journal ≡ store (20 * 0) (bytes_of (head_with 0 m)) b
   unfolding start

@@ -8,9 +8,10 @@ use Prim.Native.Nat.{ℕ, ◌<◌, ◌≤◌}
 use native.Mathlib.Omega.{arith}
 use lib.Dec.{eqb}
 use borrow.Author.Tests.{eq-eqb, ne_eqb, le-leb}
+use Rattle.std.proofs.lemmas.Bool.{not-true, or_left, or_right}
 use Rattle.lists.specs.Search.{any, member}
 use Rattle.lists.specs.Tables.{each}
-use Rattle.lists.proofs.BoolLaws.{by_cases, clash, and_left, and_right, not-both, or_left, or_right, or-false-left, or-false-right}
+use Rattle.lists.proofs.BoolLaws.{by_cases, clash, and_left, and_right, or-false-left, or-false-right}
 use Rattle.lists.proofs.MemberLaws.{member-append}
 use Rattle.journal.specs.Refusals.{within}
 use Rattle.journal.specs.Orders.{Refusal, Trial, trial, Order, try, try_each, in_turn, decide}
@@ -115,7 +116,7 @@ module _ (low high : ℕ) where
     free-never : (Q : Type 0) (os : List Order) (s : Labels os) → free os s ≡ true → Saying n p Q os
     free-never Q [] s f = tt
     free-never Q (o ∷ os) s f =
-        (away s.0.0 s.0.1 (not-both _ (and_left _ (free os s.1) f)), free-never Q os s.1 (and_right (not (has s.0.0)) _ f))
+        (away s.0.0 s.0.1 (not-true _ (and_left _ (free os s.1) f)), free-never Q os s.1 (and_right (not (has s.0.0)) _ f))
 
     -- it decides
     pub stage-decides : (os : List Order) (s : Labels os) → just_one os s ≡ true → Says n p (decide (stage os s) ≡ some (record { number = n; place = p })) (in_turn os)

@@ -15,7 +15,7 @@ use Rattle.format.specs.declared.Record.{Record}
 use Rattle.format.specs.Bytes.{Bytes, bytes, value, amount}
 use Rattle.format.specs.Layout.{record_of, bytes_of, record_at, Fitting}
 use Rattle.format.proofs.BytesLaws.{Bytes-store, length-bytes, bytes-bytes, value-bytes}
-use Rattle.format.proofs.LayoutLaws.{length-bytes_of, record_of-bytes_of, kind_at, reserved-at, transaction-at, next-at, item-at, before_at, after-at}
+use Rattle.format.proofs.LayoutLaws.{length-bytes_of, record_of-bytes_of, kind_at, reserved_at, transaction_at, next_at, item_at, before_at, after_at}
 use Rattle.journal.specs.Copy.{linked_to}
 use Rattle.journal.specs.Calls.{link}
 
@@ -76,12 +76,12 @@ module _ (i n : ℕ) (b : List ℕ) (long : 20 * i + 20 ≤ length b) where
       ap (λ k. take k (drop (20 * i + 4) c)) (sym (length-bytes 4 n)) ∙ part-store (20 * i + 4) (bytes 4 n) b linked-fits in
       record-path
       (kind_at c i ∙ get_or-store-before (20 * i + 4) (bytes 4 n) b linked-fits (20 * i) 0 (omega arith) ∙ sym (kind_at b i))
-      (reserved-at c i ∙ get_or-store-before (20 * i + 4) (bytes 4 n) b linked-fits (20 * i + 1) 0 (omega arith) ∙ sym (reserved-at b i))
-      (transaction-at c i ∙ ap value (front 2 2 (omega arith)) ∙ sym (transaction-at b i))
-      (next-at c i ∙ ap value here ∙ value-bytes 4 n h)
-      (item-at c i ∙ ap value (back 8 4 (omega arith)) ∙ sym (item-at b i))
+      (reserved_at c i ∙ get_or-store-before (20 * i + 4) (bytes 4 n) b linked-fits (20 * i + 1) 0 (omega arith) ∙ sym (reserved_at b i))
+      (transaction_at c i ∙ ap value (front 2 2 (omega arith)) ∙ sym (transaction_at b i))
+      (next_at c i ∙ ap value here ∙ value-bytes 4 n h)
+      (item_at c i ∙ ap value (back 8 4 (omega arith)) ∙ sym (item_at b i))
       (before_at c i ∙ ap (λ v. amount (value v)) (back 12 4 (omega arith)) ∙ sym (before_at b i))
-      (after-at c i ∙ ap (λ v. amount (value v)) (back 16 4 (omega arith)) ∙ sym (after-at b i))
+      (after_at c i ∙ ap (λ v. amount (value v)) (back 16 4 (omega arith)) ∙ sym (after_at b i))
 
   pub record_at-linked-other : (j : ℕ) → eqb j i ≡ false → record_at (store (20 * i + 4) (bytes 4 n) b) j ≡ record_at b j
   record_at-linked-other j e =

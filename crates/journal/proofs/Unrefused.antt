@@ -9,8 +9,9 @@ use lib.Dec.{eqb, ltb, leb}
 use lib.IntN.{pos}
 use lib.ListN.{length}
 use borrow.Author.Tests.{eqb-true, eq-eqb, ltb-true, ltb-false, leb-true, leb-false, le-leb, lt-leb, le-ltb}
+use Rattle.std.proofs.lemmas.Bool.{not-false}
 use Rattle.lists.specs.Search.{any}
-use Rattle.lists.proofs.BoolLaws.{by_cases, clash, and_left, and_right, or_cases, or-false-left, or-false-right, not-neither}
+use Rattle.lists.proofs.BoolLaws.{by_cases, clash, and_left, and_right, or_cases, or-false-left, or-false-right}
 use Rattle.format.specs.declared.Record.{Record}
 use Rattle.format.specs.Layout.{record_at}
 use Rattle.model.specs.History.{Amount, Tag, same_amount, read, write, commit, abort, write_to, current, standing, next_in}
@@ -83,7 +84,7 @@ head_right-head_fields r h = rw (h.kind, h.reserved, h.tx, le-leb r.next.0 3200 
 
 pub head-head_fields : (b : List ℕ) → bad_head b ≡ false → HeadFields (record_at b 0)
 unfolding bad_head
-head-head_fields b e = head_fields (record_at b 0) (not-neither _ e)
+head-head_fields b e = head_fields (record_at b 0) (not-false _ e)
 
 pub head_fields-head : (b : List ℕ) → HeadFields (record_at b 0) → bad_head b ≡ false
 unfolding bad_head
@@ -103,7 +104,7 @@ count-bound b e = (head-head_fields b e).count
 
 pub table-length : (b : List ℕ) (t : List Amount) → wrong_table b t ≡ false → length t ≡ items b
 unfolding wrong_table
-table-length b t e = eqb-true _ _ (not-neither _ e)
+table-length b t e = eqb-true _ _ (not-false _ e)
 
 pub length-table : (b : List ℕ) (t : List Amount) → length t ≡ items b → wrong_table b t ≡ false
 unfolding wrong_table
@@ -119,7 +120,7 @@ pub record Formed (m : ℕ) (r : Record) : Type 0 where
 pub formed : (m : ℕ) (r : Record) → malformed m r ≡ false → Formed m r
 unfolding malformed
 formed m r e =
-    let h = not-neither _ e in
+    let h = not-false _ e in
     let g = and_left _ (body_right m r) h in
     record {
       reserved = eqb-true r.reserved 0 (and_left _ (within 1 1024 (tx_in r)) g);
@@ -173,7 +174,7 @@ op_of-abort i r e = rw e
 
 pub chained-next : (b : List ℕ) (i : ℕ) → wrong_next b i ≡ false → (record_at b i).next.0 ≡ next_in (whole b) i (tx_in (record_at b i))
 unfolding wrong_next
-chained-next b i e = eqb-true _ _ (not-neither _ e)
+chained-next b i e = eqb-true _ _ (not-false _ e)
 
 pub next-chained : (b : List ℕ) (i : ℕ) → (record_at b i).next.0 ≡ next_in (whole b) i (tx_in (record_at b i)) → wrong_next b i ≡ false
 unfolding wrong_next
@@ -181,7 +182,7 @@ next-chained b i e = rw (eq-eqb _ _ e)
 
 pub settled-amount : (b : List ℕ) (t : List Amount) (x : ℕ) → unsettled b t x ≡ false → Settled (amount_at t x) (whole b) x
 unfolding unsettled
-settled-amount b t x e w = same-eq _ _ (not-neither _ (rw w at e))
+settled-amount b t x e w = same-eq _ _ (not-false _ (rw w at e))
 
 pub amount-settled : (b : List ℕ) (t : List Amount) (x : ℕ) → Settled (amount_at t x) (whole b) x → unsettled b t x ≡ false
 unfolding unsettled

@@ -6,3 +6,4 @@ pub mod Copy
 pub mod Results
 pub mod Calls
 pub mod Reasons
+pub mod Outcomes

@@ -9,7 +9,7 @@ use format::{Key, Lsn, TransactionId};
 
 // Why a call is refused, with the place (document 01, "Reasons for handing it back"). specs/Reasons.antt gives each its number and
 // place.
-#[derive(Clone, Copy)]
+#[derive(Clone, Copy, Debug, PartialEq, Eq)]
 pub enum Reason {
     Truncated,
     Header,
@@ -28,48 +28,50 @@ pub enum Reason {
     Counts,
 }
 
-// Document 01's number of a reason.
-pub fn number(why: Reason) -> u32
-    ensures { result ≡ number_of why }
-{
-    match why {
-        Reason::Truncated => 1,
-        Reason::Header => 2,
-        Reason::TableLength => 3,
-        Reason::Malformed(_) => 4,
-        Reason::Chain(_) => 5,
-        Reason::Closed(_) => 6,
-        Reason::Conflict(_) => 7,
-        Reason::Blind(_) => 8,
-        Reason::BeforeImage(_) => 9,
-        Reason::FinalState(_) => 10,
-        Reason::Active(_) => 11,
-        Reason::Unknown(_) => 12,
-        Reason::StatusLength => 13,
-        Reason::Capacity => 14,
-        Reason::Counts => 15,
+impl Reason {
+    // Document 01's number of a reason.
+    pub fn number(self) -> u32
+        ensures { result ≡ number_of self }
+    {
+        match self {
+            Reason::Truncated => 1,
+            Reason::Header => 2,
+            Reason::TableLength => 3,
+            Reason::Malformed(_) => 4,
+            Reason::Chain(_) => 5,
+            Reason::Closed(_) => 6,
+            Reason::Conflict(_) => 7,
+            Reason::Blind(_) => 8,
+            Reason::BeforeImage(_) => 9,
+            Reason::FinalState(_) => 10,
+            Reason::Active(_) => 11,
+            Reason::Unknown(_) => 12,
+            Reason::StatusLength => 13,
+            Reason::Capacity => 14,
+            Reason::Counts => 15,
+        }
     }
-}
 
-// Its place: a record, an item, a transaction, a list position, or 0.
-pub fn place(why: Reason) -> u64
-    ensures { result ≡ place_of why }
-{
-    match why {
-        Reason::Truncated => 0,
-        Reason::Header => 0,
-        Reason::TableLength => 0,
-        Reason::Malformed(i) => i.0 as u64,
-        Reason::Chain(i) => i.0 as u64,
-        Reason::Closed(i) => i.0 as u64,
-        Reason::Conflict(i) => i.0 as u64,
-        Reason::Blind(i) => i.0 as u64,
-        Reason::BeforeImage(i) => i.0 as u64,
-        Reason::FinalState(x) => x.0 as u64,
-        Reason::Active(s) => s.0 as u64,
-        Reason::Unknown(k) => k as u64,
-        Reason::StatusLength => 0,
-        Reason::Capacity => 0,
-        Reason::Counts => 0,
+    // Its place: a record, an item, a transaction, a list position, or 0.
+    pub fn place(self) -> u64
+        ensures { result ≡ place_of self }
+    {
+        match self {
+            Reason::Truncated => 0,
+            Reason::Header => 0,
+            Reason::TableLength => 0,
+            Reason::Malformed(i) => i.0 as u64,
+            Reason::Chain(i) => i.0 as u64,
+            Reason::Closed(i) => i.0 as u64,
+            Reason::Conflict(i) => i.0 as u64,
+            Reason::Blind(i) => i.0 as u64,
+            Reason::BeforeImage(i) => i.0 as u64,
+            Reason::FinalState(x) => x.0 as u64,
+            Reason::Active(s) => s.0 as u64,
+            Reason::Unknown(k) => k as u64,
+            Reason::StatusLength => 0,
+            Reason::Capacity => 0,
+            Reason::Counts => 0,
+        }
     }
 }

@@ -11,12 +11,11 @@ use Rattle.lists.specs.Tables.{each}
 use Rattle.lists.proofs.BoolLaws.{by_cases}
 use Rattle.lists.proofs.TablesLaws.{each-zero, each-suc}
 use Rattle.model.specs.History.{Amount, same_amount}
-use Rattle.journal.specs.Journal.{amount_at}
 use Rattle.journal.specs.Calls.{Answer, refused, accepted, UndoTotals}
 use Rattle.text.specs.Lines.{undone_line, change_line, refused_line}
 use Rattle.text.proofs.PutsLaws.{length_none, length-flatten}
 use Rattle.text.proofs.DecimalLaws.{length-decimal, length-decimal_z}
-use Rattle.lines.specs.AnswerLines.{undone_in, change_in, lines}
+use Rattle.lines.specs.AnswerLines.{undone_in, change_of, change_in, lines}
 
 -- ---- the length of each line
 
@@ -33,10 +32,9 @@ length-undone_in : (status : List ℕ) (s : ℕ) → length (undone_in status s)
 unfolding undone_in
 length-undone_in status s = by_cases (eqb (get_or status s 0) 2) (λ e. rw e (length-undone_line s)) (λ e. rw e (omega arith))
 
-length-change_in : (old new : List Amount) (x : ℕ) → length (change_in old new x) ≤ 70
-unfolding change_in
-length-change_in old new x =
-    by_cases (same_amount (amount_at old x) (amount_at new x)) (λ e. rw e (omega arith)) (λ e. rw e (length-change_line x _ _))
+length-change_of : (x : ℕ) (old new : Amount) → length (change_of x old new) ≤ 70
+unfolding change_of
+length-change_of x old new = by_cases (same_amount old new) (λ e. rw e (omega arith)) (λ e. rw e (length-change_line x old new))
 
 length-each : (f : ℕ → List ℕ) (k : ℕ) → ((j : ℕ) → length (f j) ≤ k) → (i n : ℕ) → length (each f i n) ≤ k * n
 length-each f k h i zero = rw (each-zero f i) (omega arith)
@@ -51,4 +49,4 @@ unfolding lines
 length-lines n m s old new status (refused k p) h = omega (arith, length-refused_line k p)
 length-lines n m s old new status (accepted c) h =
     simp (length-flatten, length_none)
-    (omega (arith, (h c refl).0, (h c refl).1, length-decimal n, length-decimal (m c), length-each (undone_in status) 26 (length-undone_in status) 1 1024, length-each (change_in old new) 70 (length-change_in old new) 0 (length old), length-decimal c.surviving, length-decimal c.undone, length-decimal c.aborted))
+    (omega (arith, (h c refl).0, (h c refl).1, length-decimal n, length-decimal (m c), length-each (undone_in status) 26 (length-undone_in status) 1 1024, length-each (change_in old new) 70 (λ x. length-change_of x _ _) 0 (length old), length-decimal c.surviving, length-decimal c.undone, length-decimal c.aborted))

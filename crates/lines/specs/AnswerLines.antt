@@ -18,8 +18,11 @@ abbrev pub undone_lines : List ℕ → List ℕ
 undone_lines status = each (undone_in status) 1 max_transaction
 
 -- the line of item x: none, if its amount is what it was
-unfoldable pub change_in : List Amount → List Amount → ℕ → List ℕ
-change_in old new x = cond (same_amount (amount_at old x) (amount_at new x)) [] (change_line x (amount_at old x) (amount_at new x))
+unfoldable pub change_of : ℕ → Amount → Amount → List ℕ
+change_of x old new = cond (same_amount old new) [] (change_line x old new)
+
+abbrev pub change_in : List Amount → List Amount → ℕ → List ℕ
+change_in old new x = change_of x (amount_at old x) (amount_at new x)
 
 -- the lines of all items, rising
 abbrev pub change_lines : List Amount → List Amount → List ℕ

@@ -1,2 +1,3 @@
 pub mod AnswerLines
 pub mod Counting
+pub mod Reports

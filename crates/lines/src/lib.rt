@@ -1,216 +1,136 @@
 // The lines of take-back's answer, written into a buffer.
 #![tactic(auto)]
 
-ghost use Rattle.std.specs.Prelude.{◌≡◌, ◌-◌, ◌/◌, ◌≤◌, ◌<◌, length};
-ghost use mathlib.Core.List.{[], ◌∷◌, flatten};
+ghost use Rattle.std.specs.Prelude.{◌≡◌, ◌-◌, ◌/◌, ◌<◌, length};
 ghost use Rattle.format.specs.Limits.{record_bytes, status_bytes};
-ghost use Rattle.journal.specs.Calls as calls;
 ghost use Rattle.journal.specs.Reasons.{number_of, place_of};
-ghost use Rattle.text.specs.Decimal.{decimal_s};
-ghost use Rattle.text.specs.Lines.{sum_line, end_line, refused_line};
-ghost use Rattle.text.specs.Puts.{Fits, Put};
-ghost use Rattle.deliver.specs.Answers.{answer_of};
-ghost use Rattle.lines.specs.AnswerLines.{undone_in, undone_lines, change_in, change_lines, lines};
-ghost use Rattle.lines.specs.Counting.{totals_with, records_in};
+ghost use Rattle.text.specs.Lines.{refused_line};
+ghost use Rattle.text.specs.Pages.{HasRoom, Writes};
+ghost use Rattle.lines.specs.AnswerLines.{undone_in, undone_lines, change_of, change_lines};
 
-use deliver::Undone;
-use format::{Key, TRANSACTIONS_END, TransactionId};
+use deliver::UndoTotals;
+use format::{RECORD_BYTES, TRANSACTIONS_END, TransactionId};
 use journal::Reason;
-use text::Signed;
+use lists::Number;
+use text::Page;
+use trace::Fate;
 
 // The line of transaction s, if its status is 2 (document 01: mark 2, taken back).
-fn put_undone_in(out: &mut [u8], at: usize, status: &[u8], s: TransactionId) -> usize
-    requires { (s.0 < length status.now) × Fits at (undone_in status.now s.0) out.old }
-    ensures { Put at (undone_in status.now s.0) out.old out.new result }
+#[tactic(auto, unfolding(crate::specs::AnswerLines::undone_in), using(crate::proofs::AnswerLinesLaws::line_steps))]
+fn put_undone_in(page: &mut Page, status: &[u8], s: TransactionId)
+    requires known { s.0 < length status.now }
+    requires room { HasRoom page.old (undone_in status.now s.0) }
+    ensures { Writes page.old (undone_in status.now s.0) page.new }
 {
-    let i = s.0 as usize;
-    let code = status[i];
-    if code == 2 {
-        text::put_undone(out, at, s.0 as u64)
-    } else {
-        at
+    if status[s.index()] == Fate::Undone as u8 {
+        page.put_undone(s.0.into());
     }
 }
 
 // The lines of all transactions with status 2.
-fn put_all_undone(out: &mut [u8], at: usize, status: &[u8]) -> usize
-    requires { (length status.now ≡ status_bytes) × Fits at (undone_lines status.now) out.old }
-    ensures { Put at (undone_lines status.now) out.old out.new result }
+fn put_all_undone(page: &mut Page, status: &[u8])
+    requires known { length status.now ≡ status_bytes }
+    requires room { HasRoom page.old (undone_lines status.now) }
+    ensures { Writes page.old (undone_lines status.now) page.new }
 {
-    let mut end = at;
-    let mut s: u16 = 1;
-    while s < TRANSACTIONS_END {
-        end = put_undone_in(out, end, status, TransactionId(s));
-        s += 1;
+    for s in 1..TRANSACTIONS_END {
+        put_undone_in(page, status, TransactionId(s));
     }
-    end
 }
 
 // The line of item x, if its amount is another.
-fn put_change_in(out: &mut [u8], at: usize, old: &[i32], new: &[i32], x: Key) -> usize
-    requires { (x.0 < length old.now) × (x.0 < length new.now) × Fits at (change_in old.now new.now x.0) out.old }
-    ensures { Put at (change_in old.now new.now x.0) out.old out.new result }
+#[tactic(auto, unfolding(crate::specs::AnswerLines::change_of), using(crate::proofs::AnswerLinesLaws::line_steps))]
+fn put_change_of(page: &mut Page, x: usize, old: i32, new: i32)
+    requires { HasRoom page.old (change_of x old new) }
+    ensures { Writes page.old (change_of x old new) page.new }
 {
-    let i = x.0 as usize;
-    let before = old[i];
-    let after = new[i];
-    if before == after {
-        at
-    } else {
-        text::put_change(out, at, x.0 as u64, before, after)
+    if old != new {
+        page.put_change(x as u64, old, new);
     }
 }
 
 // The lines of all items whose amount is another.
-fn put_changes(out: &mut [u8], at: usize, old: &[i32], new: &[i32]) -> usize
-    requires { (length old.now ≡ length new.now) × Fits at (change_lines old.now new.now) out.old
-        × (length old.now ≤ 16005) }
-    ensures { Put at (change_lines old.now new.now) out.old out.new result }
+fn put_changes(page: &mut Page, old: &[i32], new: &[i32])
+    requires same { length old.now ≡ length new.now }
+    requires room { HasRoom page.old (change_lines old.now new.now) }
+    ensures { Writes page.old (change_lines old.now new.now) page.new }
 {
-    let mut end = at;
-    let mut x = 0;
-    while x < old.len() {
-        end = put_change_in(out, end, old, new, Key(x as u32));
-        x += 1;
+    for (x, before) in old.iter().enumerate() {
+        put_change_of(page, x, *before, new[x]);
     }
-    end
 }
 
 // The copy's records, by its bytes.
-fn copied_records(bytes: u64) -> u64
+fn copied_records(bytes: usize) -> usize
     ensures { result ≡ bytes / record_bytes - 1 }
 {
-    if bytes < 20 { 0 } else { bytes / 20 - 1 }
-}
-
-// The last lines: the sum and the counts.
-fn put_sum_and_end(
-    out: &mut [u8],
-    at: usize,
-    sum: Signed,
-    surviving: u64,
-    undone: u64,
-    aborted: u64,
-) -> usize
-    requires { Fits at (flatten (sum_line (decimal_s sum) ∷ end_line surviving undone aborted ∷ [])) out.old }
-    ensures { Put at (flatten (sum_line (decimal_s sum) ∷ end_line surviving undone aborted ∷ [])) out.old
-        out.new result }
-{
-    let a = text::put_sum(out, at, sum);
-    text::put_end(out, a, surviving, undone, aborted)
-}
-
-// The changed items, and the last lines.
-fn put_changes_and_end(
-    out: &mut [u8],
-    at: usize,
-    old: &[i32],
-    new: &[i32],
-    sum: Signed,
-    surviving: u64,
-    undone: u64,
-    aborted: u64,
-) -> usize
-    requires { (length old.now ≡ length new.now)
-        × Fits at (flatten (change_lines old.now new.now ∷ sum_line (decimal_s sum) ∷ end_line surviving undone aborted ∷ []))
-        out.old × (length old.now ≤ 16005) }
-    ensures { Put at
-        (flatten (change_lines old.now new.now ∷ sum_line (decimal_s sum)
-        ∷ end_line surviving undone aborted ∷ [])) out.old out.new result }
-{
-    let a = put_changes(out, at, old, new);
-    put_sum_and_end(out, a, sum, surviving, undone, aborted)
-}
-
-// The lines behind the first.
-fn put_body(
-    out: &mut [u8],
-    at: usize,
-    status: &[u8],
-    old: &[i32],
-    new: &[i32],
-    sum: Signed,
-    surviving: u64,
-    undone: u64,
-    aborted: u64,
-) -> usize
-    requires { (length status.now ≡ status_bytes) × (length old.now ≡ length new.now)
-        × Fits at
-        (flatten (undone_lines status.now ∷ change_lines old.now new.now ∷ sum_line (decimal_s sum)
-        ∷ end_line surviving undone aborted ∷ [])) out.old × (length old.now ≤ 16005) }
-    ensures { Put at
-        (flatten (undone_lines status.now ∷ change_lines old.now new.now ∷ sum_line (decimal_s sum)
-        ∷ end_line surviving undone aborted ∷ [])) out.old out.new result }
-{
-    let a = put_all_undone(out, at, status);
-    put_changes_and_end(out, a, old, new, sum, surviving, undone, aborted)
-}
-
-// The lines of an accepted take-back.
-fn put_accepted(
-    out: &mut [u8],
-    n: u64,
-    status: &[u8],
-    old: &[i32],
-    new: &[i32],
-    sum: Signed,
-    surviving: u64,
-    undone: u64,
-    aborted: u64,
-    bytes: u64,
-) -> usize
-    requires { (length status.now ≡ status_bytes) × (length old.now ≡ length new.now)
-        × Fits 0 (lines n records_in (λ c. decimal_s sum) old.now new.now status.now
-        (calls.Answer.accepted (totals_with surviving undone aborted bytes))) out.old × (length old.now ≤ 16005) }
-    ensures { Put 0
-        (lines n records_in (λ c. decimal_s sum) old.now new.now status.now
-        (calls.Answer.accepted (totals_with surviving undone aborted bytes))) out.old out.new result }
-{
-    let m = copied_records(bytes);
-    let a = text::put_counts(out, 0, n, m);
-    put_body(out, a, status, old, new, sum, surviving, undone, aborted)
+    (bytes / RECORD_BYTES).saturating_sub(1)
 }
 
 // The line of a refused take-back.
-fn put_reason(out: &mut [u8], why: Reason) -> usize
-    requires { Fits 0 (refused_line (number_of why) (place_of why)) out.old }
-    ensures { Put 0 (refused_line (number_of why) (place_of why)) out.old out.new result }
+fn put_reason(page: &mut Page, why: Reason)
+    requires { HasRoom page.old (refused_line (number_of why) (place_of why)) }
+    ensures { Writes page.old (refused_line (number_of why) (place_of why)) page.new }
 {
-    let number = journal::number(why);
-    let place = journal::place(why);
-    text::put_refused(out, 0, number as u64, place)
+    page.put_refused(why.number().into(), why.place());
 }
 
-// The lines of take-back's answer; `sum` is the copy's net change, where there is a copy.
-pub fn put_answer(
-    out: &mut [u8],
-    answer: Undone,
-    n: u64,
-    status: &[u8],
-    old: &[i32],
-    new: &[i32],
-    sum: Signed,
-) -> usize
-    requires { (length status.now ≡ status_bytes) × (length old.now ≡ length new.now)
-        × Fits 0 (lines n records_in (λ c. decimal_s sum) old.now new.now status.now (answer_of answer)) out.old
-        × (length old.now ≤ 16005) }
-    ensures { Put 0
-        (lines n records_in (λ c. decimal_s sum) old.now new.now status.now (answer_of answer))
-        out.old out.new result }
-{
-    match answer {
-        Undone::Done(c) => put_accepted(
-            out,
-            n,
-            status,
-            old,
-            new,
-            sum,
-            c.surviving as u64,
-            c.undone as u64,
-            c.aborted as u64,
-            c.bytes as u64,
-        ),
-        Undone::Refused(why) => put_reason(out, why),
+// What a report is made of beside take-back's answer: the journal's record count, the statuses, the table before and after, and the
+// copy's net change, where there is a copy.
+#[derive(Clone, Copy)]
+pub struct Report<'a> {
+    pub records: u64,
+    pub status: &'a [u8],
+    pub old: &'a [i32],
+    pub new: &'a [i32],
+    pub sum: i64,
+    ghost marks: { length status.now ≡ status_bytes },
+    ghost tables: { length old.now ≡ length new.now },
+}
+
+impl Report<'_> {
+    ghost use Rattle.std.specs.Prelude.{◌≡◌};
+    ghost use Rattle.journal.specs.Calls.{accepted};
+    ghost use Rattle.text.specs.Pages.{HasRoom, Writes};
+    ghost use Rattle.text.specs.Puts.{Fits, Put};
+    ghost use Rattle.journal.specs.Outcomes.{answer_of};
+    ghost use Rattle.deliver.specs.Answers.{totals_of};
+    ghost use Rattle.lines.specs.Reports.{report_lines};
+
+    // The lines of an accepted take-back.
+    fn put_accepted(&self, page: &mut Page, totals: UndoTotals)
+        requires { HasRoom page.old (report_lines self.now (accepted (totals_of totals))) }
+        ensures { Writes page.old (report_lines self.now (accepted (totals_of totals))) page.new }
+    {
+        page.put_counts(self.records, copied_records(totals.bytes) as u64);
+        put_all_undone(page, self.status);
+        put_changes(page, self.old, self.new);
+        page.put_sum(self.sum);
+        page.put_end(
+            u64::from(totals.surviving),
+            u64::from(totals.undone),
+            u64::from(totals.aborted),
+        );
+    }
+
+    // The lines of take-back's answer.
+    fn put_lines(&self, page: &mut Page, answer: Result<UndoTotals, Reason>)
+        requires { HasRoom page.old (report_lines self.now (answer_of totals_of answer)) }
+        ensures { Writes page.old (report_lines self.now (answer_of totals_of answer)) page.new }
+    {
+        match answer {
+            Ok(totals) => self.put_accepted(page, totals),
+            Err(why) => put_reason(page, why),
+        }
+    }
+
+    // The lines of take-back's answer, at the front of a buffer, and where they end.
+    pub fn put_answer(&self, answer: Result<UndoTotals, Reason>, out: &mut [u8]) -> usize
+        requires { Fits 0 (report_lines self.now (answer_of totals_of answer)) out.old }
+        ensures { Put 0 (report_lines self.now (answer_of totals_of answer)) out.old out.new result }
+    {
+        let mut page = Page { bytes: out, end: 0 };
+        self.put_lines(&mut page, answer);
+        page.end
     }
 }

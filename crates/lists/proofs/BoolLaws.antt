@@ -1,19 +1,12 @@
--- Case splits on a Bool and what `&&`, `||` and `not` say.
+-- Case splits on a Bool and what `&&` and `||` say.
 -- Assumes nothing.
 use mathlib.Core.Path.{◌≡◌, refl, sym, ◌∙◌}
-use mathlib.Core.Bool.{Bool, true, false, false≢true, not, ◌&&◌, ◌||◌}
+use mathlib.Core.Bool.{Bool, true, false, false≢true, ◌&&◌, ◌||◌}
 
 -- a case on a test, with its equation
 pub by_cases {ℓ} : {P : Type ℓ} (b : Bool) → (b ≡ true → P) → (b ≡ false → P) → P
 by_cases true f g = f refl
 by_cases false f g = g refl
-
-pub or_left : (a b : Bool) → a ≡ true → a || b ≡ true
-or_left a b e = rw e
-
-pub or_right : (a b : Bool) → b ≡ true → a || b ≡ true
-or_right true b e = refl
-or_right false b e = e
 
 pub or_cases {ℓ} : {P : Type ℓ} (a b : Bool) → a || b ≡ true → (a ≡ true → P) → (b ≡ true → P) → P
 or_cases true b e f g = f refl
@@ -43,17 +36,3 @@ pub same_truth : (a b : Bool) → (a ≡ true → b ≡ true) → (b ≡ true �
 same_truth true b f g = sym (f refl)
 same_truth false true f g = g refl
 same_truth false false f g = refl
-
-pub not-both : (a : Bool) → not a ≡ true → a ≡ false
-not-both true e = sym e
-not-both false e = refl
-
-pub not_of_false : (a : Bool) → a ≡ false → not a ≡ true
-not_of_false a e = rw e
-
-pub not-neither : (a : Bool) → not a ≡ false → a ≡ true
-not-neither true e = refl
-not-neither false e = sym e
-
-pub and_both : (a b : Bool) → a ≡ true → b ≡ true → a && b ≡ true
-and_both a b e f = rw (e, f)

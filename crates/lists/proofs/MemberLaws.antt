@@ -8,8 +8,9 @@ use native.Mathlib.Omega.{arith}
 use lib.Dec.{eqb}
 use lib.ListN.{length, get_or}
 use borrow.Author.Tests.{eqb-true, eq-eqb}
+use Rattle.std.proofs.lemmas.Bool.{or_left, or_right}
 use Rattle.lists.specs.Search.{keep, member}
-use Rattle.lists.proofs.BoolLaws.{by_cases, or_left, or_right, or_cases}
+use Rattle.lists.proofs.BoolLaws.{by_cases, or_cases}
 
 pub member-at : (l : List ℕ) (k : ℕ) → k < length l → member (get_or l k 0) l ≡ true
 member-at [] k h = absurd (omega arith)

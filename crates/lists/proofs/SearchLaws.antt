@@ -4,8 +4,9 @@ use mathlib.Core.Path.{◌≡◌, refl, sym, ◌∙◌}
 use mathlib.Core.Bool.{Bool, true, false, false≢true}
 use mathlib.Core.List.{List, [], ◌∷◌}
 use mathlib.Core.Option.{none, some, none-ne-some}
+use Rattle.std.proofs.lemmas.Bool.{or_left, or_right}
 use Rattle.lists.specs.Search.{any, keep, latest, first}
-use Rattle.lists.proofs.BoolLaws.{by_cases, or_left, or_right, or_cases, or-false-left, or-false-right, clash}
+use Rattle.lists.proofs.BoolLaws.{by_cases, or_cases, or-false-left, or-false-right, clash}
 
 module _ {A : Type 0} where
   -- a test that fails on all that the filter drops sees no difference

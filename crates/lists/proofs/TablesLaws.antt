@@ -9,9 +9,10 @@ use native.Mathlib.Omega.{arith}
 use native.Mathlib.Numerals.{add-one}
 use lib.Dec.{eqb}
 use lib.ListN.{length, take, drop, get_or, set, replicate, length-append, length-drop, length-set, length-replicate, get_or-replicate, drop_of_length-le, get_or-eq_default}
-use lib.Seq.{take-append-add, length-take-le, take-append-le, take_at, drop_at, drop-append-add, get_or-take, take-take, take-nil, drop-drop, sets, sets-eq, set_out, get_or-set_same, get_or-set_other, ext_get_or}
-use borrow.Author.Tests.{eqb-true, eqb-false, eq-eqb, ne_eqb}
+use lib.Seq.{take-append-add, length-take-le, take-append-le, take_at, drop_at, drop-append-add, get_or-take, take-take, take-nil, drop-drop, sets, sets-eq, get_or-set_same, get_or-set_other, ext_get_or}
+use borrow.Author.Tests.{eqb-true, eqb-false}
 use borrow.Rule.Slice.PartMut.{put_mid}
+use Rattle.std.proofs.lemmas.List.{drop-take}
 use Rattle.lists.specs.Tables.{tabulate, each, store, stepped, count_if}
 use Rattle.lists.proofs.BoolLaws.{by_cases}
 
@@ -26,9 +27,6 @@ pub record ByIndex {A : Type 0} (f : ℕ → A) (n : ℕ) (l : List A) : Type 0 
   pub at : (k : ℕ) (d : A) → k < n → get_or l k d ≡ f k
 
 module _ {A : Type 0} where
-  pub set-behind : (l : List A) (i : ℕ) (v : A) → length l ≤ i → l ≡ set l i v
-  set-behind l i v h = sym (set_out l i v h)
-
   -- ---- tabulate
 
   pub tabulate-zero : (f : ℕ → A) (i : ℕ) → tabulate f i 0 ≡ []
@@ -136,12 +134,6 @@ module _ {A : Type 0} where
 
   -- ---- store
 
-  -- a part of a list, of the list cut behind it
-  pub take-drop : (m n : ℕ) (l : List A) → take n (drop m l) ≡ drop m (take (m + n) l)
-  take-drop zero n l = ap (λ k. take k l) (sym (zero-add n))
-  take-drop (suc m) n [] = take-nil n ∙ sym (ap (drop (suc m)) (take-nil (suc m + n)))
-  take-drop (suc m) n (x ∷ l) = rw (suc-add m n) (take-drop m n l)
-
   -- the front of a list written
   pub store-front : (v l : List A) → store 0 v l ≡ v ++ drop (length v) l
   unfolding store
@@ -200,7 +192,7 @@ module _ {A : Type 0} where
 
     -- a part in front of what is stored, and one behind
     pub part-store-before : (m n : ℕ) → m + n ≤ at → take n (drop m (store at v l)) ≡ take n (drop m l)
-    part-store-before m n h = take-drop m n _ ∙ ap (drop m) (take-store (m + n) h) ∙ sym (take-drop m n l)
+    part-store-before m n h = sym (drop-take m n _) ∙ ap (drop m) (take-store (m + n) h) ∙ drop-take m n l
 
     pub part-store-after : (m n : ℕ) → at + length v ≤ m → take n (drop m (store at v l)) ≡ take n (drop m l)
     part-store-after m n h = ap (take n) (drop-store m h)
@@ -212,7 +204,7 @@ module _ {A : Type 0} where
         let m : at + length v + (n - (at + length v)) ≡ n = omega arith in
         let e : n ≡ length (take at l ++ v) + (n - (at + length v)) = omega (arith, length-through) in
         ap (λ k. take k (store at v l)) e ∙ take-append-add (take at l ++ v) (drop (at + length v) l) (n - (at + length v))
-        ∙ ap (λ r. take at l ++ v ++ r) (take-drop (at + length v) (n - (at + length v)) l ∙ ap (λ k. drop (at + length v) (take k l)) m)
+        ∙ ap (λ r. take at l ++ v ++ r) (sym (drop-take (at + length v) (n - (at + length v)) l) ∙ ap (λ k. drop (at + length v) (take k l)) m)
         ∙ ap (λ r. r ++ v ++ drop (at + length v) (take n l)) (sym (take-take at n l (omega arith)))
 
     -- the front up to what is stored
@@ -242,9 +234,6 @@ module _ {A : Type 0} where
 
     pub stepped-turn : (i : ℕ) (s t u : A) → t ≡ stepped f i s → u ≡ f (i + 1) t → u ≡ stepped f (i + 1) s
     stepped-turn i s t u e q = q ∙ rw (e, add-one) (sym (stepped-suc i s))
-
-    pub stepped-done : (n i : ℕ) (s t : A) → i ≤ n → n ≤ i → t ≡ stepped f i s → t ≡ stepped f n s
-    stepped-done n i s t h l e = let z : n ≡ i = omega arith in rw z e
 
 -- ---- count_if
 
@@ -303,10 +292,3 @@ count_if-add f g h i (suc n) e d =
 pub count_if-none : (f : ℕ → Bool) (i n : ℕ) → ((k : ℕ) → f k ≡ false) → count_if f i n ≡ 0
 count_if-none f i zero e = count_if-zero f i
 count_if-none f i (suc n) e = count_if-no f i n (e i) ∙ count_if-none f (suc i) n e
-
--- one more, if the code is v
-pub one-more-yes : (c e v : ℕ) → e ≡ v → c + 1 ≡ cond (eqb e v) (c + 1) c
-one-more-yes c e v h = rw (eq-eqb e v h)
-
-pub one-more-no : (c e v : ℕ) → (e ≡ v → ⊥) → c ≡ cond (eqb e v) (c + 1) c
-one-more-no c e v h = rw (ne_eqb e v h)

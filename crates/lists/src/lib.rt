@@ -1,44 +1,31 @@
-// Tests over a list, lists made by index, a part of a list stored anew, counting. The code here reads and stores one element of an
-// array, and raises a count.
+// Tests over a list, lists made by index, a part of a list stored anew, counting. The code here reads and stores one entry of an
+// array, by the number that it belongs to.
 #![tactic(auto)]
 
-ghost use Rattle.std.specs.Prelude.{◌≡◌, cond, ◌+◌, ◌<◌, eqb, length, get_or, set};
+ghost use Rattle.std.specs.Prelude.{◌≡◌, ℕ, get_or, set};
 
-// A number of an array that has it.
-pub fn at(list: &[u32], i: usize) -> u32
-    requires { i < length list.now }
-    ensures { result ≡ get_or list.now i 0 }
-{
-    list[i]
+// A numbering: each of its values is the index of an entry.
+pub trait Number: Copy {
+    ghost number: { Self → ℕ };
+
+    fn index(self) -> usize
+        ensures { result ≡ number self };
 }
 
-// A number of an array; 0 behind its end.
-pub fn number_at(list: &[u32], i: usize) -> u32
-    ensures { result ≡ get_or list.now i 0 }
+// The entry of a number; behind the end of the list the default.
+pub fn at<N: Number, T: Copy>(list: &[T], i: N, default: T) -> T
+    ensures { result ≡ get_or list.now (N.number i) default }
 {
-    if i < list.len() { list[i] } else { 0 }
+    let i = i.index();
+    if i < list.len() { list[i] } else { default }
 }
 
-// A code of an array; 0 behind its end.
-pub fn code_at(codes: &[u8], i: usize) -> u8
-    ensures { result ≡ get_or codes.now i 0 }
+// Stores the entry of a number; behind the end of the list nothing.
+pub fn put<N: Number, T: Copy>(list: &mut [T], i: N, v: T)
+    ensures { list.new ≡ set list.old (N.number i) v }
 {
-    if i < codes.len() { codes[i] } else { 0 }
-}
-
-// Stores a code; behind the end of the array nothing.
-pub fn set_code(codes: &mut [u8], i: usize, v: u8)
-    ensures { codes.new ≡ set codes.old i v }
-{
-    if i < codes.len() {
-        codes[i] = v;
+    let i = i.index();
+    if i < list.len() {
+        list[i] = v;
     }
-}
-
-// One more, if the code is v.
-pub fn one_more(count: u32, code: u8, v: u8) -> u32
-    requires { count < 4294967295 }
-    ensures { result ≡ cond (eqb code v) (count + 1) count }
-{
-    if code == v { count + 1 } else { count }
 }

@@ -8,8 +8,9 @@ use mathlib.Core.Option.{Option, none, some}
 use Prim.Native.Nat.{ℕ}
 use lib.Dec.{eqb}
 use borrow.Author.Tests.{eqb-true, eq-eqb}
+use Rattle.std.proofs.lemmas.Bool.{or_left, or_right}
 use Rattle.lists.specs.Search.{member}
-use Rattle.lists.proofs.BoolLaws.{by_cases, or_left, or_right, or_cases}
+use Rattle.lists.proofs.BoolLaws.{by_cases, or_cases}
 use Rattle.model.specs.History.{Op, History, Tag, read, write, commit, abort, other, tx_of, commit_of, end_of, committed, ended}
 use Rattle.model.specs.Undo.{Upto, all, more, Closed, reads_from, by_member, reached}
 use Rattle.model.proofs.Ends.{tail-ends, any-ends, EndsLast, committed-ended}

@@ -8,8 +8,9 @@ use native.Mathlib.Omega.{arith}
 use lib.Dec.{eqb}
 use lib.ListN.{length}
 use borrow.Author.Tests.{eqb-true}
+use Rattle.std.proofs.lemmas.Bool.{or_right}
 use Rattle.lists.specs.Search.{any}
-use Rattle.lists.proofs.BoolLaws.{by_cases, or_right, or_cases, and_left, and_right, clash}
+use Rattle.lists.proofs.BoolLaws.{by_cases, or_cases, and_left, and_right, clash}
 use Rattle.lists.proofs.SearchLaws.{any-mono}
 use Rattle.model.specs.History.{Op, History, Amount, read, write, commit, abort, other, tx_of, by_kind, item_of, read_of, write_of, access_of, write_to, access_to, commit_of, abort_of, end_of, committed, aborted, ended}
 use Rattle.model.specs.Undo.{Upto, all, more, Untagged}

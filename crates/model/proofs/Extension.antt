@@ -10,8 +10,9 @@ use lib.ListN.{length}
 use lib.IntN.{pos}
 use lib.Dec.{eqb, ltb}
 use borrow.Author.Tests.{eqb-true, eqb-false, eq-eqb, ne_eqb, lt-ltb, le-ltb}
+use Rattle.std.proofs.lemmas.Bool.{not-false}
 use Rattle.lists.specs.Search.{any, latest, or_else, first}
-use Rattle.lists.proofs.BoolLaws.{by_cases, clash, not-neither}
+use Rattle.lists.proofs.BoolLaws.{by_cases, clash}
 use Rattle.lists.proofs.SearchLaws.{first-none, first_some, first-old}
 use Rattle.model.specs.History.{Op, History, Amount, Tag, same_amount, read, write, commit, abort, other, tx_of, tag_of, before_of, after_of, of_tx, write_of, write_to, before_in, applied, current, initial, standing, later_of, tag_in, next_in}
 use Rattle.model.specs.Rules.{mismatched}
@@ -93,7 +94,7 @@ next-extended o {q} {p} {j} n i l =
     (λ h. let f = first-none (later_of (tag_of q) (tx_of q)) j h in
     by_cases (eqb (tx_of q) (tx_of o))
     (λ e. let d : eqb (tag_of q) (tag_in (latest (of_tx (tx_of o)) j)) ≡ true =
-    rw (← eqb-true (tx_of q) (tx_of o) e) (not-neither _ (sym (later-newest n i) ∙ h)) in
+    rw (← eqb-true (tx_of q) (tx_of o) e) (not-false _ (sym (later-newest n i) ∙ h)) in
     rw (f, e, t, d))
     (λ e. let d : eqb (tag_of q) (tag_in (latest (of_tx (tx_of o)) j)) ≡ false =
     ne_eqb _ _ (λ c. eqb-false (tx_of q) (tx_of o) e (sym (newest-tx (tx_of o) n i c))) in

@@ -5,8 +5,9 @@ use mathlib.Core.Bool.{Bool, false≢true, true, false}
 use mathlib.Core.List.{List, [], ◌∷◌, ◌++◌}
 use Prim.Native.Nat.{ℕ}
 use borrow.Author.Tests.{ne_eqb}
+use Rattle.std.proofs.lemmas.Bool.{or_left}
 use Rattle.lists.specs.Search.{member}
-use Rattle.lists.proofs.BoolLaws.{by_cases, or_left, and_left, and_right}
+use Rattle.lists.proofs.BoolLaws.{by_cases, and_left, and_right}
 use Rattle.lists.proofs.SearchLaws.{any_none, keep-keep}
 use Rattle.lists.proofs.MemberLaws.{member-append}
 use Rattle.model.specs.History.{Op, History, read, write, commit, abort, other, tx_of, commit_of, committed}

@@ -8,9 +8,10 @@ use native.Mathlib.Omega.{arith}
 use lib.Dec.{eqb}
 use lib.IntN.{ℤ, pos, neg_ℤ, ◌+ℤ◌, ◌-ℤ◌, +ℤ_assoc, +ℤ_comm, +ℤ_invr, +ℤ_idl, +ℤ_idr}
 use borrow.Author.Tests.{eq-eqb, ne_eqb, eqb-true}
+use Rattle.std.proofs.lemmas.Bool.{or_left, or_right}
 use Rattle.lists.specs.Search.{any}
 use Rattle.lists.specs.Tables.{tabulate}
-use Rattle.lists.proofs.BoolLaws.{by_cases, or_left, or_right, clash}
+use Rattle.lists.proofs.BoolLaws.{by_cases, clash}
 use Rattle.lists.proofs.TablesLaws.{tabulate-ext}
 use Rattle.model.specs.History.{History, Amount, Tag, read, write, commit, abort, other, write_to, aborted}
 use Rattle.model.specs.Net.{net_change, table_sum}

@@ -8,8 +8,9 @@ use Prim.Native.Nat.{ℕ}
 use lib.IntN.{pos}
 use lib.Dec.{eqb}
 use borrow.Author.Tests.{eq-eqb, ne_eqb, not-false}
+use Rattle.std.proofs.lemmas.Bool.{or_left}
 use Rattle.lists.specs.Search.{any, first}
-use Rattle.lists.proofs.BoolLaws.{by_cases, or_left, clash}
+use Rattle.lists.proofs.BoolLaws.{by_cases, clash}
 use Rattle.lists.proofs.SearchLaws.{any-mono, first-none, first-old}
 use Rattle.model.specs.History.{Op, History, Amount, Tag, same_amount, read, write, commit, abort, other, tx_of, of_tx, write_of, write_to, end_of, committed, ended, active, before_in, applied, current, initial, standing}
 use Rattle.model.specs.Rules.{conflicting, mismatched}

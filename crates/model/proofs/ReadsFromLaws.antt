@@ -8,8 +8,9 @@ use mathlib.Core.Option.{some}
 use Prim.Native.Nat.{ℕ}
 use lib.Dec.{eqb}
 use borrow.Author.Tests.{eqb-true, eq-eqb}
+use Rattle.std.proofs.lemmas.Bool.{or_right}
 use Rattle.lists.specs.Search.{any, latest}
-use Rattle.lists.proofs.BoolLaws.{by_cases, or_right, or_cases, and_left, and_right, clash}
+use Rattle.lists.proofs.BoolLaws.{by_cases, or_cases, and_left, and_right, clash}
 use Rattle.lists.proofs.SearchLaws.{any-keep, latest-keep, latest-kept, latest-passes}
 use Rattle.model.specs.History.{Op, History, Amount, Tag, read, write, commit, abort, other, tx_of, write_of, write_to, commit_of, committed}
 use Rattle.model.specs.Undo.{is_source, SourceTest, write_by, source_by, visible_to, reads_from, only}

@@ -6,8 +6,9 @@ use mathlib.Core.Logic.{⊎_elim}
 use mathlib.Core.List.{List, ◌∷◌}
 use mathlib.Core.Option.{some}
 use Prim.Native.Nat.{ℕ}
+use Rattle.std.proofs.lemmas.Bool.{and_from}
 use Rattle.lists.specs.Search.{any, member}
-use Rattle.lists.proofs.BoolLaws.{by_cases, and_left, and_right, and_both}
+use Rattle.lists.proofs.BoolLaws.{by_cases, and_left, and_right}
 use Rattle.lists.proofs.SearchLaws.{any-keep}
 use Rattle.model.specs.History.{Op, History, Tag, read, tx_of, commit_of, committed, aborted}
 use Rattle.model.specs.Undo.{Upto, reads_from, reached, undone, surviving, only}
@@ -33,7 +34,7 @@ module _ (φ : Op → Bool) (l : List ℕ) (j : History) (c : EndsLast j) where
       ⊎_elim
       (λ (g : s ≡ tx_of w). rw (← g) h)
       (λ (g : committed p (tx_of w) ≡ true).
-      and_both _ _ (any-ends (commit_of (tx_of w)) (tail-ends i) g)
+      and_from _ _ (any-ends (commit_of (tx_of w)) (tail-ends i) g)
       (by_cases (member (tx_of w) (reached φ l j))
       (λ m. let n = reached-closed φ l c i e m in let q = and_right (committed j s) _ h in cc)
       (λ m. rw m)))

@@ -7,8 +7,9 @@ use mathlib.Core.Option.{some}
 use Prim.Native.Nat.{ℕ}
 use lib.Dec.{eqb}
 use borrow.Author.Tests.{eqb-true, eq-eqb, not-false}
+use Rattle.std.proofs.lemmas.Bool.{or_left}
 use Rattle.lists.specs.Search.{any, latest, first}
-use Rattle.lists.proofs.BoolLaws.{by_cases, or_left, or_cases, and_left, and_right, or-false-left, or-false-right, clash}
+use Rattle.lists.proofs.BoolLaws.{by_cases, or_cases, and_left, and_right, or-false-left, or-false-right, clash}
 use Rattle.lists.proofs.SearchLaws.{any-keep-false, any-mono, first-none, first-old}
 use Rattle.model.specs.History.{Op, History, Amount, Tag, read, write, commit, abort, other, tx_of, read_of, write_of, access_of, write_to, access_to, abort_of, end_of, committed, aborted, ended, before_in, current}
 use Rattle.model.specs.Rules.{by_other, blind}

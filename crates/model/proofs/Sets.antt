@@ -4,8 +4,9 @@ use mathlib.Core.Path.{◌≡◌, refl, sym, ◌∙◌, ap}
 use mathlib.Core.Bool.{Bool, true, false, not, ◌&&◌}
 use mathlib.Core.List.{List, [], ◌∷◌, ◌++◌}
 use Prim.Native.Nat.{ℕ}
+use Rattle.std.proofs.lemmas.Bool.{and_from, not_from_false, or_left, or_right}
 use Rattle.lists.specs.Search.{keep, member}
-use Rattle.lists.proofs.BoolLaws.{by_cases, or_left, or_right, or_cases, and_left, and_right, and_both, not_of_false, same_truth, clash}
+use Rattle.lists.proofs.BoolLaws.{by_cases, or_cases, and_left, and_right, same_truth, clash}
 use Rattle.lists.proofs.SearchLaws.{any_none}
 use Rattle.lists.proofs.MemberLaws.{member-append, member-keep}
 use Rattle.model.specs.History.{Op, History, read, write, commit, abort, other, tx_of, abort_of, committed, aborted}
@@ -62,7 +63,7 @@ module _ (φ : Op → Bool) (a l : List ℕ) (j : History) (c : EndsLast j) wher
       (λ e. reached-list φ (a ++ rest) s j (rw (member-append s a rest) (or_left (member s a) _ e)))
       (λ e. by_cases (undone φ a j s)
       (λ u. more-undone φ a rest j c s (and_left (committed j s) _ u) (and_right (committed j s) _ u))
-      (λ u. reached-list φ (a ++ rest) s j (rw (member-append s a rest) (or_right (member s a) _ (member-keep (λ s. not (undone φ a j s)) s l ∙ and_both _ _ (not_of_false _ u) e)))))
+      (λ u. reached-list φ (a ++ rest) s j (rw (member-append s a rest) (or_right (member s a) _ (member-keep (λ s. not (undone φ a j s)) s l ∙ and_from _ _ (not_from_false _ u) e)))))
 
   -- the names that were struck change nothing
   pub surviving-remaining : (s : ℕ) → surviving φ (a ++ keep (λ v. not (undone φ a j v)) l) j s ≡ surviving φ (a ++ l) j s

@@ -6,8 +6,9 @@ use mathlib.Core.List.{[], ◌∷◌}
 use Prim.Native.Nat.{ℕ}
 use lib.Dec.{eqb}
 use borrow.Author.Tests.{eqb-true, eqb-false, eq-eqb, ne_eqb}
+use Rattle.std.proofs.lemmas.Bool.{or_right}
 use Rattle.lists.specs.Search.{any, first}
-use Rattle.lists.proofs.BoolLaws.{by_cases, or_right, or_cases, and_left, and_right, or-false-left, or-false-right, clash}
+use Rattle.lists.proofs.BoolLaws.{by_cases, or_cases, and_left, and_right, or-false-left, or-false-right, clash}
 use Rattle.lists.proofs.SearchLaws.{any-mono, first-none, first-old}
 use Rattle.model.specs.History.{Op, History, Amount, Tag, read, write, commit, abort, other, tx_of, write_of, access_of, write_to, access_to, committed, ended, before_in}
 use Rattle.model.specs.Rules.{by_other}

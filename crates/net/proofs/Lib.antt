@@ -1,4 +1,2 @@
-pub mod Size
-pub mod Sum
 pub mod NetRecords
 pub mod NetHead

@@ -3,6 +3,7 @@
 use mathlib.Core.Path.{◌≡◌, refl, sym, ◌∙◌, ap}
 use mathlib.Core.Bool.{Bool, false, cond}
 use mathlib.Core.List.{List, ◌∷◌}
+use mathlib.Core.Option.{none}
 use Prim.Native.Nat.{ℕ, suc, ◌+◌, ◌<◌, ◌≤◌}
 use native.Mathlib.Omega.{arith}
 use native.Mathlib.Numerals.{add-one}
@@ -14,18 +15,22 @@ use Rattle.lists.specs.Search.{first}
 use Rattle.lists.proofs.BoolLaws.{by_cases}
 use Rattle.format.specs.declared.Record.{Record}
 use Rattle.format.specs.Layout.{record_at}
-use Rattle.model.specs.History.{Op, read, write, tx_of, tag_of, tag_in, of_tx}
+use Rattle.model.specs.History.{Op, History, read, write, tx_of, tag_of, tag_in, of_tx}
 use Rattle.journal.specs.Journal.{items, tx_in, op_of, history}
 use Rattle.journal.specs.Refusals.{malformed}
+use Rattle.journal.specs.Orders.{decide, record_order}
+use Rattle.journal.proofs.Checked.{RecordRight, clear-record}
+use Rattle.journal.proofs.Clear.{decide-clear}
 use Rattle.journal.proofs.Records.{tx_of-op_of, tag_of-op_of, history-suc}
 use Rattle.journal.proofs.Unrefused.{op_of-read, op_of-write, op_of-commit, op_of-abort}
+use Rattle.fields.specs.Answers.{Opened}
 use Rattle.fields.proofs.Fields.{formed-range, formed-kinds}
 use Rattle.arrays.specs.declared.Touched.{Touched}
 use Rattle.arrays.specs.Recent.{last_write, by_tx}
-use Rattle.arrays.specs.Arrays.{Ready, Linked, State, ends_of, firsts_of, writes_of, bases_of, reads_of, read_before}
+use Rattle.arrays.specs.Arrays.{Ready, NoBlindTo, Linked, State, ends_of, firsts_of, writes_of, bases_of, reads_of, read_before}
 use Rattle.arrays.specs.Writers.{writer_of}
-use Rattle.arrays.proofs.Found.{first_found, found_none, found_some}
-use Rattle.arrays.proofs.ArraysLaws.{ends-array, firsts-array, writes-array, bases-array, reads-array, item-read, item-write}
+use Rattle.arrays.proofs.Found.{core-right, first_found, found_none, found_some}
+use Rattle.arrays.proofs.ArraysLaws.{firsts-array, writes-array, bases-array, reads-array, item-read, item-write}
 use Rattle.note.specs.Firsts.{first_put}
 use Rattle.note.proofs.Steps.{firsts-set, firsts_same, ends-commit, ends-abort, writes-write, bases-again, bases-write, reads-read, reads-write}
 
@@ -80,6 +85,11 @@ firsts-step b n l h e =
     (λ q. let some' = found_some (first_found (of_tx s) b n) (λ z. eqb-false (get_or l s 0) 0 q (a ∙ z)) in
     rw (q, e) (firsts_same (history b n) o (ap (λ v. first (of_tx v) (history b n)) t ∙ some')))
 
+-- the transaction that wrote an item last writes it again
+pub own-again : (p : History) (s x : ℕ) (t : Touched) → t ≡ writer_of p s x → t.own ≡ by_tx (last_write p x) s
+unfolding writer_of
+own-again p s x t e = ap (λ u. u.own) e
+
 -- ---- all arrays
 
 module _ (b : List ℕ) (n : ℕ) (r : Record) (ends firsts writes bases reads links firsts' : List ℕ) (k : Ready b n) (u : n < 3200) (s : State b n ends firsts writes bases reads links)
@@ -122,11 +132,11 @@ module _ (b : List ℕ) (n : ℕ) (r : Record) (ends firsts writes bases reads l
   not-read : (m : ℕ) → r.kind ≡ m → (m ≡ 1 → ⊥) → (record_at b (suc n)).kind ≡ 1 → ⊥
   not-read m q h z = h (sym q ∙ ap (λ t. t.kind) here ∙ z)
 
-  pub state-write : (writes' bases' reads' : List ℕ) (t : Touched) → r.kind ≡ 2 → t ≡ writer_of (history b n) (tx_in r) r.item.0 → writes' ≡ set writes r.item.0 (n + 1)
-      → bases' ≡ cond t.own bases (set bases r.item.0 (n + 1)) → reads' ≡ set reads r.item.0 0
+  pub state-write : (writes' bases' reads' : List ℕ) (again : Bool) → r.kind ≡ 2 → again ≡ by_tx (last_write (history b n) r.item.0) (tx_in r) → writes' ≡ set writes r.item.0 (n + 1)
+      → bases' ≡ cond again bases (set bases r.item.0 (n + 1)) → reads' ≡ set reads r.item.0 0
       → State b (n + 1) ends firsts' writes' bases' reads' links
-  unfolding writer_of ends_of
-  state-write writes' bases' reads' t q v c d g =
+  unfolding ends_of
+  state-write writes' bases' reads' again q v c d g =
       let y = r.item.0 in
       state (write (suc n) (tx_in r) y r.before r.after) (op_of-write (suc n) r q)
       s.ended
@@ -157,35 +167,53 @@ module _ (b : List ℕ) (n : ℕ) (r : Record) (ends firsts writes bases reads l
       ended _ 4 2 q (eqb-false 4 1 refl) (op_of-abort (suc n) r q) (ends-abort (history b n) (suc n) (tx_in r)) refl refl refl (rw (v, z) at w))
       (λ e. absurd (formed-kinds (items b) r f x y (eqb-false r.kind 3 z) (eqb-false r.kind 4 e))))
 
-pub end-commit : (kind : ℕ) → kind ≡ 3 → ◌≡◌ {A = ℕ} 1 (cond (eqb kind 3) 1 2)
-end-commit kind e = rw (eq-eqb kind 3 e)
+-- ---- the next record, which passed
 
-pub end-abort : (kind : ℕ) → (kind ≡ 3 → ⊥) → ◌≡◌ {A = ℕ} 2 (cond (eqb kind 3) 1 2)
-end-abort kind e = rw (ne_eqb kind 3 e)
+module _ (b : List ℕ) (n m i : ℕ) (r : Record) (k : Ready b n) (o : Opened b m i) (h : n < m) (p : decide (record_order b (n + 1)) ≡ none) where
+  right : RecordRight b (suc n) (history b n)
+  right = clear-record b n (decide-clear (record_order b (suc n)) (rw add-one at p))
+
+  pub ready-more : Ready b (n + 1)
+  ready-more =
+      record {
+        long = omega (arith, o.long);
+        few = omega (arith, o.few);
+        items = k.items;
+        passed = λ j l. by_cases (eqb j n) (λ q. let z = eqb-true j n q in rw z (core-right right)) (λ q. let d = eqb-false j n q in k.passed j (omega arith));
+      }
+
+  pub not_blind-more : NoBlindTo b n → NoBlindTo b (n + 1)
+  not_blind-more f =
+      record { read = λ j l. by_cases (eqb j n) (λ q. let z = eqb-true j n q in rw z right.follows.not_blind) (λ q. let d = eqb-false j n q in f.read j (omega arith)) }
+
+  module _ (e : r ≡ record_at b (n + 1)) where
+    pub next-formed : malformed (items b) r ≡ false
+    next-formed = rw (e, add-one) right.formed
+
+    pub next-low : tx_in r < 1025
+    next-low = let g = formed-range (items b) r next-formed in omega arith
+
+    pub read-low : r.kind ≡ 1 → r.item.0 < 1024
+    read-low = item-read b n r k next-formed
+
+    pub write-low : r.kind ≡ 2 → r.item.0 < 1024
+    write-low = item-write b n r k next-formed
 
 -- ---- indices
 
-module _ (b : List ℕ) (n : ℕ) (r : Record) (ends firsts writes bases reads links : List ℕ) (k : Ready b n) (s : State b n ends firsts writes bases reads links) (f : malformed (items b) r ≡ false) where
-  pub tx-firsts : tx_in r < length firsts
-  tx-firsts = let g = formed-range (items b) r f in rw (s.begun, (firsts-array (history b n)).size) (omega arith)
+module _ (b : List ℕ) (n : ℕ) (ends firsts writes bases reads links : List ℕ) (s : State b n ends firsts writes bases reads links) where
+  pub in-firsts : (t : ℕ) → t < 1025 → t < length firsts
+  in-firsts t l = rw (s.begun, (firsts-array (history b n)).size) l
 
-  pub tx-ends : tx_in r < length ends
-  tx-ends = let g = formed-range (items b) r f in rw (s.ended, (ends-array (history b n)).size) (omega arith)
+  module _ (x : ℕ) (l : x < 1024) where
+    pub in-reads : x < length reads
+    in-reads = rw (s.last_read, (reads-array (history b n)).size) l
 
-  pub read-reads : r.kind ≡ 1 → r.item.0 < length reads
-  read-reads e = rw (s.last_read, (reads-array (history b n)).size) (item-read b n r k f e)
+    pub in-writes : x < length writes
+    in-writes = rw (s.written, (writes-array (history b n)).size) l
 
-  pub read-links : n < 3200 → n + 1 < length links
-  read-links u = omega (arith, s.linked.size)
+    pub in-bases : x < length bases
+    in-bases = rw (s.based, (bases-array (history b n)).size) l
 
-  pub write-writes : r.kind ≡ 2 → r.item.0 < length writes
-  write-writes e = rw (s.written, (writes-array (history b n)).size) (item-write b n r k f e)
-
-  pub write-bases : r.kind ≡ 2 → r.item.0 < length bases
-  write-bases e = rw (s.based, (bases-array (history b n)).size) (item-write b n r k f e)
-
-  pub write-reads : r.kind ≡ 2 → r.item.0 < length reads
-  write-reads e = rw (s.last_read, (reads-array (history b n)).size) (item-write b n r k f e)
-
-pub bases-else : (again : Bool) (l m : List ℕ) → again ≡ false → m ≡ cond again l m
-bases-else again l m e = rw e
+  pub in-links : n < 3200 → n + 1 < length links
+  in-links u = omega (arith, s.linked.size)

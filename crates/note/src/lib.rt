@@ -1,15 +1,14 @@
-// A record that passed, entered in the working arrays.
+// A record that passed, entered in the pass.
 #![tactic(auto)]
 
-ghost use Rattle.std.specs.Prelude.{◌≡◌, false, cond, ◌+◌, ◌<◌, eqb, length, get_or, set};
+ghost use Rattle.std.specs.Prelude.{◌≡◌, cond, ◌+◌, ◌<◌, eqb, length, get_or, set};
+ghost use Rattle.std.proofs.Math.Option.{none};
 ghost use Rattle.format.specs.Layout.{record_at};
-ghost use Rattle.format.specs.Limits.{max_records};
-ghost use Rattle.journal.specs.Journal.{items};
-ghost use Rattle.journal.specs.Refusals.{malformed};
-ghost use Rattle.arrays.specs.Arrays.{Ready, State};
+ghost use Rattle.journal.specs.Orders.{decide, record_order};
+ghost use Rattle.arrays.specs.Ends.{code_of};
 ghost use Rattle.note.specs.Firsts.{first_put};
 
-use arrays::last_writer;
+use arrays::{End, Pass, last_writer};
 use format::{Key, Lsn, Record, TransactionId};
 
 // Record i is the first of transaction s, if it has none.
@@ -29,10 +28,8 @@ fn note_read(reads: &mut [u32], links: &mut [u32], x: Key, i: Lsn)
     ensures { (reads.new ≡ set reads.old x.0 i.0)
         × (links.new ≡ set links.old i.0 (get_or reads.old x.0 0)) }
 {
-    let item = x.0 as usize;
-    let read = i.0 as usize;
-    links[read] = reads[item];
-    reads[item] = i.0;
+    links[i.0 as usize] = reads[x.0 as usize];
+    reads[x.0 as usize] = i.0;
 }
 
 // Record i writes item x; `again` if its transaction wrote it last before.
@@ -45,51 +42,45 @@ fn note_write(writes: &mut [u32], bases: &mut [u32], reads: &mut [u32], x: Key, 
     let item = x.0 as usize;
     writes[item] = i.0;
     reads[item] = 0;
-    if again {
-        return;
+    if !again {
+        bases[item] = i.0;
     }
-    bases[item] = i.0;
 }
 
-// The end that a commit or an abort is: 1 or 2.
-fn end_code(kind: u8) -> u8
-    ensures { result ≡ cond (eqb kind 3) 1 2 }
+// The end that a commit or an abort is.
+fn end_of(kind: u8) -> End
+    ensures { code_of result ≡ cond (eqb kind 3) 1 2 }
 {
-    if kind == 3 { 1 } else { 2 }
+    if kind == 3 {
+        End::Committed
+    } else {
+        End::Aborted
+    }
 }
 
-// Record n + 1 in the working arrays.
-pub fn note(
-    journal: &[u8],
-    n: u32,
-    r: Record,
-    ends: &mut [u8],
-    firsts: &mut [u32],
-    writes: &mut [u32],
-    bases: &mut [u32],
-    reads: &mut [u32],
-    links: &mut [u32],
-)
-    requires { Ready journal.now n × (n < max_records)
-        × State journal.now n ends.old firsts.old writes.old bases.old reads.old links.old
-        × (malformed (items journal.now) r ≡ false) × (r ≡ record_at journal.now (n + 1)) }
-    ensures { State journal.now (n + 1) ends.new firsts.new writes.new
-        bases.new reads.new links.new }
+// The next record, which passed.
+pub fn note(pass: &mut Pass, r: Record)
+    requires next { r ≡ record_at pass.old.journal.bytes.now (pass.old.n + 1) }
+    requires within { pass.old.n < pass.old.journal.records }
+    requires passed { decide (record_order pass.old.journal.bytes.now (pass.old.n + 1)) ≡ none }
+    ensures journal { pass.new.journal ≡ pass.old.journal }
+    ensures more { pass.new.n ≡ pass.old.n + 1 }
 {
-    let i = Lsn(n + 1);
-    note_first(firsts, r.transaction, i);
-    let kind = r.kind;
-    match kind {
-        1 => {
-            note_read(reads, links, r.item, i);
-        }
-        2 => {
-            let writer = last_writer(journal, n, ends, writes, r.item, r.transaction);
-            note_write(writes, bases, reads, r.item, i, writer.own);
-        }
-        _ => {
-            let s = r.transaction.0 as usize;
-            ends[s] = end_code(kind);
-        }
+    let i = Lsn(pass.n + 1);
+    let s = r.transaction;
+    let again = r.kind == 2 && last_writer(pass, r.item, s).own;
+    note_first(&mut pass.firsts, s, i);
+    pass.n = i.0;
+    match r.kind {
+        1 => note_read(&mut pass.reads, &mut pass.links, r.item, i),
+        2 => note_write(
+            &mut pass.writes,
+            &mut pass.bases,
+            &mut pass.reads,
+            r.item,
+            i,
+            again,
+        ),
+        _ => pass.ends[s.0 as usize] = end_of(r.kind),
     }
 }

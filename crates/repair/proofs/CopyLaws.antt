@@ -10,7 +10,6 @@ use lib.ListN.{length, get_or}
 use mir.Syntax.{w32}
 use mir.Val.{to_z, of_z, SFits}
 use mir.ValLaws.{to_z-of_z}
-use borrow.Author.Tests.{ne_eqb}
 use borrow.Rule.Slice.PartMut.{put_mid}
 use Rattle.lists.specs.Tables.{store, stepped, coded}
 use Rattle.lists.proofs.BoolLaws.{by_cases}
@@ -26,20 +25,20 @@ use Rattle.repair.proofs.RankLaws.{rank-surviving, rank-le}
 
 -- ---- one record
 
-module _ (b fates ranks out : List ℕ) (i v : ℕ) (r : Record) (e : r ≡ record_at b i) (q : v ≡ get_or fates (tx_in r) 0) where
-  pub copy-idle : (v ≡ 1 → ⊥) → out ≡ copy_step b fates ranks i out
-  unfolding copy_step coded
-  copy-idle h = rw (← e, ← q, ne_eqb v 1 h)
+module _ (b fates ranks out : List ℕ) (i : ℕ) (r : Record) (e : r ≡ record_at b i) where
+  pub copy-idle : coded 1 fates (tx_in r) ≡ false → out ≡ copy_step b fates ranks i out
+  unfolding copy_step
+  copy-idle h = rw (← e, h)
 
   -- the part written, with its amounts read back from their bits
-  pub copy-moved : (next a : ℕ) (part : List ℕ) → v ≡ 1 → next ≡ get_or ranks r.next.0 0 → a ≡ get_or ranks i 0 → SFits w32 r.before → SFits w32 r.after
-      → part ≡ bytes_of (record { kind = r.kind; reserved = r.reserved; transaction = record { 0 = tx_in r }; next = record { 0 = next }; item = record { 0 = r.item.0 }; before = to_z w32 (of_z w32 r.before); after = to_z w32 (of_z w32 r.after) })
+  pub copy-moved : (next a : ℕ) (part : List ℕ) → coded 1 fates (tx_in r) ≡ true → next ≡ get_or ranks r.next.0 0 → a ≡ get_or ranks i 0 → SFits w32 r.before → SFits w32 r.after
+      → part ≡ bytes_of (record { kind = r.kind; reserved = r.reserved; transaction = r.transaction; next = record { 0 = next }; item = r.item; before = to_z w32 (of_z w32 r.before); after = to_z w32 (of_z w32 r.after) })
       → put_mid (20 * a) (20 * a + 20 - 20 * a) out part ≡ copy_step b fates ranks i out
-  unfolding copy_step coded moved
+  unfolding copy_step moved
   copy-moved next a part h n c f g o =
       let z : 20 * a + 20 - 20 * a ≡ 20 = omega arith in
       let w : part ≡ bytes_of (linked_to next r) = o ∙ rw (to_z-of_z w32 r.before f, to_z-of_z w32 r.after g) in
-      rw (← e, ← q, h, z, c, w, n) (part-stored (20 * get_or ranks i 0) 20 (bytes_of (linked_to (get_or ranks r.next.0 0) r)) out (length-bytes_of (linked_to (get_or ranks r.next.0 0) r)))
+      rw (← e, h, z, c, w, n) (part-stored (20 * get_or ranks i 0) 20 (bytes_of (linked_to (get_or ranks r.next.0 0) r)) out (length-bytes_of (linked_to (get_or ranks r.next.0 0) r)))
 
 -- ---- the records so far
 

@@ -1,3 +1,4 @@
+pub mod Numbers
 pub mod RankLaws
 pub mod CopyLaws
 pub mod Repaired

@@ -7,7 +7,7 @@ use Prim.Native.Nat.{ℕ, zero, suc, ◌+◌, ◌≤◌}
 use native.Mathlib.Omega.{arith}
 use native.Mathlib.Numerals.{add-one}
 use lib.Dec.{eqb, ltb}
-use lib.ListN.{length, get_or, set, replicate, length-replicate}
+use lib.ListN.{length, get_or, replicate, get_or-replicate}
 use borrow.Author.Tests.{eqb-true, eqb-false, ne_eqb, lt-ltb, le-ltb, ltb-true, ltb-false}
 use Rattle.lists.specs.Tables.{coded}
 use Rattle.lists.specs.Search.{any, first}
@@ -19,9 +19,7 @@ use Rattle.model.specs.Undo.{only, renumber, retag}
 use Rattle.model.proofs.Renumber.{tx_of-retag, tag_of-retag}
 use Rattle.journal.specs.Journal.{tx_in, op_of, history}
 use Rattle.journal.proofs.Records.{tx_of-op_of, tag_of-op_of, history-zero, history-suc}
-use Rattle.trace.specs.Codes.{partly}
-use Rattle.repair.specs.Copying.{rank, Ranked}
-use Rattle.trace.proofs.CodesLaws.{partly-start, partly-step, partly-at, length-partly}
+use Rattle.repair.specs.Copying.{rank}
 
 or-cong : {a a' c c' : Bool} → a ≡ a' → c ≡ c' → a || c ≡ a' || c'
 or-cong e f = rw (e, f)
@@ -138,37 +136,16 @@ module _ (k : ℕ → Bool) (b : List ℕ) where
 
 -- ---- the array of ranks
 
-zeros-front : (n v : ℕ) → v ≡ 0 → replicate (suc n) 0 ≡ set (replicate (suc n) 0) 0 v
-zeros-front n v e = rw e
-
 module _ (b fates : List ℕ) where
-  pub ranks-start : replicate 3201 0 ≡ partly (rank (coded 1 fates) b) (0 + 1) (replicate 3201 0)
-  ranks-start =
-      let f = rank (coded 1 fates) b in
-      zeros-front 3200 (f 0) (rank-zero (coded 1 fates) b) ∙ ap (λ z. set z 0 (f 0)) (partly-start f (replicate 3201 0)) ∙ partly-step f (replicate 3201 0) 0
-
   pub rank-start : 0 ≡ rank (coded 1 fates) b 0
   rank-start = sym (rank-zero (coded 1 fates) b)
 
+  pub ranks-start : (k : ℕ) → k ≤ 0 → get_or (replicate 3201 0) k 0 ≡ rank (coded 1 fates) b k
+  ranks-start k h = let z : k ≡ 0 = omega arith in rw z (get_or-replicate 3201 0 0 0 (omega arith) ∙ rank-start)
+
   -- one record more
-  pub next-one-more : (n surviving v t m : ℕ) → t ≡ tx_in (record_at b (n + 1)) → v ≡ get_or fates t 0 → m ≡ cond (eqb v 1) (surviving + 1) surviving → m ≡ cond (coded 1 fates (tx_in (record_at b (n + 1)))) (surviving + 1) surviving
-  unfolding coded
-  next-one-more n surviving v t m a c e = e ∙ rw (c, a)
-
-  module _ (i surviving m : ℕ) (q : surviving ≡ rank (coded 1 fates) b i) (e : m ≡ cond (coded 1 fates (tx_in (record_at b (i + 1)))) (surviving + 1) surviving) where
-    pub surviving-step : m ≡ rank (coded 1 fates) b (i + 1)
-    surviving-step = e ∙ rw (q, add-one, add-one) (sym (rank-suc (coded 1 fates) b i))
-
-    pub ranks-step : (all : List ℕ) → all ≡ partly (rank (coded 1 fates) b) (i + 1) (replicate 3201 0) → set all (i + 1) m ≡ partly (rank (coded 1 fates) b) (i + 1 + 1) (replicate 3201 0)
-    ranks-step all a = rw (a, surviving-step) (partly-step (rank (coded 1 fates) b) (replicate 3201 0) (i + 1))
+  pub rank-more : (i surviving m : ℕ) → surviving ≡ rank (coded 1 fates) b i → m ≡ cond (coded 1 fates (tx_in (record_at b (i + 1)))) (surviving + 1) surviving → m ≡ rank (coded 1 fates) b (i + 1)
+  rank-more i surviving m q e = e ∙ rw (q, add-one (rank (coded 1 fates) b i), add-one i) (sym (rank-suc (coded 1 fates) b i))
 
   pub rank-at-most : (i surviving : ℕ) → surviving ≡ rank (coded 1 fates) b i → surviving ≤ i
   rank-at-most i surviving q = rw q (rank-few (coded 1 fates) b i)
-
-  pub ranks-done : (n i : ℕ) (all : List ℕ) → n ≤ 3200 → i ≤ n → n ≤ i → all ≡ partly (rank (coded 1 fates) b) (i + 1) (replicate 3201 0) → Ranked b fates n all
-  ranks-done n i all f h l a =
-      let s : length {A = ℕ} (replicate 3201 0) ≡ 3201 = length-replicate {A = ℕ} 3201 0 in
-      record {
-        size = rw a (length-partly (rank (coded 1 fates) b) (replicate 3201 0) (i + 1) ∙ s);
-        at = λ k m. rw a (partly-at (rank (coded 1 fates) b) (replicate 3201 0) (i + 1) k (omega arith) (omega arith));
-      }

@@ -2,7 +2,7 @@
 -- Assumes nothing.
 use mathlib.Core.Path.{◌≡◌, refl, sym, ◌∙◌, ap, subst}
 use mathlib.Core.Option.{some}
-use mathlib.Core.Bool.{Bool, true, false, cond, not}
+use mathlib.Core.Bool.{Bool, true, false, cond}
 use mathlib.Core.List.{List, [], ◌∷◌}
 use Prim.Native.Nat.{ℕ, zero, suc, ◌+◌, ◌≤◌, ◌<◌}
 use native.Mathlib.Omega.{arith}
@@ -10,15 +10,12 @@ use lib.Dec.{eqb}
 use lib.IntN.{pos}
 use lib.ListN.{length, get_or, set, replicate}
 use lib.Seq.{set-set}
-use mir.Syntax.{w32}
-use mir.Val.{to_z, of_z, SFits}
-use mir.ValLaws.{to_z-of_z}
-use borrow.Author.Tests.{eqb-true, eq-eqb, ne_eqb}
+use borrow.Author.Tests.{eqb-true, eq-eqb}
 use Rattle.lists.specs.Search.{any, first}
 use Rattle.lists.specs.Tables.{stepped, coded}
 use Rattle.lists.proofs.BoolLaws.{by_cases, or-false-left, or-false-right}
 use Rattle.lists.proofs.SearchLaws.{first-none, first-old}
-use Rattle.lists.proofs.TablesLaws.{tabulate-ext, tabulate-get_or, ByIndex, by_index, by-index-all, by-index-set, stepped_start, stepped-suc, stepped-turn}
+use Rattle.lists.proofs.TablesLaws.{tabulate-ext, tabulate-get_or, ByIndex, by_index, by-index-all, by-index-set, stepped_start, stepped-suc}
 use Rattle.format.specs.declared.Record.{Record}
 use Rattle.format.specs.Layout.{record_at}
 use Rattle.model.specs.History.{Op, History, Amount, read, write, commit, abort, other, write_to, before_in, initial}
@@ -33,47 +30,21 @@ use Rattle.arrays.proofs.ArraysLaws.{by-access, item-write}
 use Rattle.arrays.proofs.Found.{passed-right}
 use Rattle.replay.specs.Replaying.{seen_of, left_after, opened_at, table_write, table_after, seen_after, replay_step}
 
--- ---- one write
-
--- An amount that was handed on is read back from its bits.
-
-module _ (seen : List ℕ) (x v : ℕ) (b : Amount) (t : List Amount) (e : v ≡ get_or seen x 0) where
-  pub opened-first : (l : List Amount) → SFits w32 b → v ≡ 0 → l ≡ set t x (to_z w32 (of_z w32 b)) → l ≡ opened_at seen x b t
-  unfolding opened_at coded
-  opened-first l f h q = q ∙ rw (to_z-of_z w32 b f, ← e, h)
-
-  pub opened-later : (v ≡ 0 → ⊥) → t ≡ opened_at seen x b t
-  unfolding opened_at coded
-  opened-later h = rw (← e, ne_eqb v 0 h)
-
-module _ (fates seen : List ℕ) (s x v : ℕ) (b a : Amount) (t o : List Amount) (e : v ≡ get_or fates s 0) (f : SFits w32 b) (p : o ≡ opened_at seen x (to_z w32 (of_z w32 b)) t) where
-  pub write-surviving : (l : List Amount) → SFits w32 a → v ≡ 1 → l ≡ set o x (to_z w32 (of_z w32 a)) → l ≡ table_write fates seen s x b a t
-  unfolding table_write coded
-  write-surviving l g h q = q ∙ rw (to_z-of_z w32 a g, ← e, h, p, to_z-of_z w32 b f)
-
-  pub write-undone : (v ≡ 1 → ⊥) → o ≡ table_write fates seen s x b a t
-  unfolding table_write coded
-  write-undone h = rw (← e, ne_eqb v 1 h) (p ∙ rw (to_z-of_z w32 b f))
-
 -- ---- one record, by its kind
 
-module _ (i : ℕ) (r q : Record) (h : r ≡ q) (fates seen : List ℕ) (t : List Amount) where
-  pub table-write : (l : List Amount) → r.kind ≡ 2 → SFits w32 r.before → SFits w32 r.after
-      → l ≡ table_write fates seen (tx_in r) r.item.0 (to_z w32 (of_z w32 r.before)) (to_z w32 (of_z w32 r.after)) t → l ≡ table_after fates (op_of i q) seen t
-  unfolding table_after
-  table-write l k f g e = e ∙ rw (to_z-of_z w32 r.before f, to_z-of_z w32 r.after g, ← h, op_of-write i r k)
+-- marks and table, one step on
+abbrev pub Step : (i : ℕ) → Record → (fates : List ℕ) → List Bool → List Amount → List Bool × List Amount → Type 0
+Step i r fates seen t s = s ≡ (seen_after (op_of i r) seen, table_after fates (op_of i r) seen t)
 
-  pub seen-write : (l : List ℕ) → r.kind ≡ 2 → l ≡ set seen r.item.0 1 → l ≡ seen_after (op_of i q) seen
-  unfolding seen_after
-  seen-write l k e = e ∙ rw (← h, op_of-write i r k)
+module _ (i : ℕ) (r : Record) (fates : List ℕ) (seen : List Bool) (t : List Amount) where
+  pub step-write : r.kind ≡ 2 → Step i r fates seen t (set seen r.item.0 true, table_write fates seen (tx_in r) r.item.0 r.before r.after t)
+  unfolding seen_after table_after
+  step-write k = rw (op_of-write i r k)
 
-  pub table-other : (r.kind ≡ 2 → ⊥) → t ≡ table_after fates (op_of i q) seen t
-  unfolding table_after
-  table-other k = rw (← h) (by-access (λ o. t ≡ table_after fates o seen t) i r (λ e. refl) (λ e. absurd (k e)) refl refl refl)
-
-  pub seen_other : (r.kind ≡ 2 → ⊥) → seen ≡ seen_after (op_of i q) seen
-  unfolding seen_after
-  seen_other k = rw (← h) (by-access (λ o. seen ≡ seen_after o seen) i r (λ e. refl) (λ e. absurd (k e)) refl refl refl)
+  pub step-other : (r.kind ≡ 2 → ⊥) → Step i r fates seen t (seen, t)
+  unfolding seen_after table_after
+  step-other k =
+      by-access (λ o. ◌≡◌ {A = List Bool × List Amount} (seen, t) (seen_after o seen, table_after fates o seen t)) i r (λ e. refl) (λ e. absurd (k e)) refl refl refl
 
 -- ---- the oldest that passes, of a list with one element more
 
@@ -86,7 +57,7 @@ module _ {A : Type 0} (f : A → Bool) (r : A) (p : List A) where
 
 -- ---- after n records
 
-seen-array : (p : History) → ByIndex (λ x. cond (any (write_to x) p) 1 0) 1024 (seen_of p)
+seen-array : (p : History) → ByIndex (λ x. any (write_to x) p) 1024 (seen_of p)
 unfolding seen_of
 seen-array p = by_index _ 1024
 
@@ -97,7 +68,7 @@ left-start k t = sym (tabulate-get_or t (pos 0))
 seen-op : (p : History) (r : Op) → seen_after r (seen_of p) ≡ seen_of (r ∷ p)
 unfolding seen_after seen_of
 seen-op p (read t s x) = refl
-seen-op p (write t s x b a) = by-index-set x 1 0 (seen-array p) (seen-array (write t s x b a ∷ p)) (rw (eq-eqb x x refl)) (λ j q. rw q)
+seen-op p (write t s x b a) = by-index-set x true false (seen-array p) (seen-array (write t s x b a ∷ p)) (rw (eq-eqb x x refl)) (λ j q. rw q)
 seen-op p (commit t s) = refl
 seen-op p (abort t s) = refl
 seen-op p (other t s) = refl
@@ -142,9 +113,8 @@ module _ (k : ℕ → Bool) (l : List Amount) where
       ap (λ o. replayed k (before_in o (amount_at l x)) (write t s x b a ∷ p) x) (first-old (write_to x) (write t s x b a) p n) ∙ rw (eq-eqb x x refl)
 
 module _ (fates : List ℕ) (l : List Amount) where
-  seen_at : (p : History) (x : ℕ) → x < 1024 → coded 0 (seen_of p) x ≡ not (any (write_to x) p)
-  unfolding coded
-  seen_at p x h = rw ((seen-array p).at x 0 h) (by_cases (any (write_to x) p) (λ e. rw e) (λ e. rw e))
+  seen_at : (p : History) (x : ℕ) → x < 1024 → get_or (seen_of p) x false ≡ any (write_to x) p
+  seen_at p x h = (seen-array p).at x false h
 
   put : (p : History) (t s x : ℕ) (b a v : Amount) → amount (coded 1 fates) l (write t s x b a ∷ p) x ≡ v → set (left_after (coded 1 fates) p l) x v ≡ left_after (coded 1 fates) (write t s x b a ∷ p) l
   unfolding left_after amount
@@ -190,19 +160,13 @@ module _ (b : List ℕ) (n i : ℕ) (k : Ready b n) (h : i < n) where
 
 -- ---- the pass
 
-pub replay-turn : (b fates : List ℕ) (i : ℕ) (s : List ℕ × List Amount) (seen l : List ℕ) (t m : List Amount) → (seen, t) ≡ stepped (replay_step b fates) i s
-    → l ≡ seen_after (op_of (i + 1) (record_at b (i + 1))) seen → m ≡ table_after fates (op_of (i + 1) (record_at b (i + 1))) seen t
-    → (l, m) ≡ stepped (replay_step b fates) (i + 1) s
-unfolding replay_step
-replay-turn b fates i s seen l t m e p q = stepped-turn (replay_step b fates) i s (seen, t) (l, m) e (λ k. (p k, q k))
-
 -- from no marks at all it is the table left
 
 replay-all : (b fates : List ℕ) (n i : ℕ) (t : List Amount) → Ready b n → i ≤ n
-    → stepped (replay_step b fates) i (replicate 1024 0, t) ≡ (seen_of (history b i), left_after (coded 1 fates) (history b i) t)
+    → stepped (replay_step b fates) i (replicate 1024 false, t) ≡ (seen_of (history b i), left_after (coded 1 fates) (history b i) t)
 unfolding replay_step
 replay-all b fates n zero t k h =
-    let none = by-index-all 0 0 (seen-array []) (λ j. refl) in
+    let none = by-index-all false false (seen-array []) (λ j. refl) in
     let old = left-start (coded 1 fates) t in
     sym (stepped_start (replay_step b fates) _) ∙ rw history-zero (λ v. (none v, old v))
 replay-all b fates n (suc i) t k h =
@@ -211,7 +175,7 @@ replay-all b fates n (suc i) t k h =
     let new = left-op fates t p r (narrow_at b n i k (omega arith)) in
     stepped-suc (replay_step b fates) i _ ∙ ap (replay_step b fates (suc i)) (replay-all b fates n i t k (omega arith)) ∙ rw (history-suc b i) (λ v. (seen-op p r v, new v))
 
-pub left-done : (b fates seen : List ℕ) (n : ℕ) (t m : List Amount) → Ready b n → (seen, m) ≡ stepped (replay_step b fates) n (replicate 1024 0, t)
+pub left-done : (b fates : List ℕ) (seen : List Bool) (n : ℕ) (t m : List Amount) → Ready b n → (seen, m) ≡ stepped (replay_step b fates) n (replicate 1024 false, t)
     → m ≡ left_after (coded 1 fates) (history b n) t
 left-done b fates seen n t m k e = ap (λ s. s.1) (e ∙ replay-all b fates n n t k (omega arith))
 

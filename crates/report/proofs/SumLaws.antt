@@ -3,7 +3,7 @@
 use mathlib.Core.Path.{◌≡◌, sym, ap, ◌∙◌}
 use mathlib.Core.List.{List}
 use mathlib.Core.Option.{none}
-use Prim.Native.Nat.{ℕ, ◌+◌, ◌*◌, ◌<◌, ◌≤◌}
+use Prim.Native.Nat.{ℕ, ◌+◌, ◌*◌, ◌<◌, ◌≤◌, ◌^◌}
 use native.Mathlib.Omega.{arith}
 use lib.ListN.{length, length-take}
 use lib.IntN.{ℤ}
@@ -60,7 +60,6 @@ module _ (d : Inputs) (bad status out : List ℕ) {u : UndoResult} (kept : UndoP
   found-sum f = f ∙ net_in-opened u.out opened ∙ ap net_change (sym (whole_agree b u.out agree))
 
 -- the digits that are printed, where the call is accepted
-pub printed-sum : (d : Inputs) (bad status out : List ℕ) {u : UndoResult} → UndoPromise d bad status out u → {n : ℤ} {v : List ℕ} → mag n < 9223372036854775808
-    → n ≡ net_in u.out → v ≡ decimal_z (to_z w64 (of_z w64 n))
-    → (c : UndoTotals) → u.answer ≡ accepted c → v ≡ decimal_z (sum_left u c)
-printed-sum d bad status out kept {n} {v} h f g c e = g ∙ ap decimal_z (to_z-of_z w64 n (record { sfits = h }) ∙ found-sum d bad status out kept e f)
+pub printed-sum : (d : Inputs) (bad status out : List ℕ) {u : UndoResult} → UndoPromise d bad status out u → {n : ℤ} → mag n < 2 ^ 63 → n ≡ net_in u.out
+    → (c : UndoTotals) → u.answer ≡ accepted c → decimal_z (to_z w64 (of_z w64 n)) ≡ decimal_z (sum_left u c)
+printed-sum d bad status out kept {n} h f c e = ap decimal_z (to_z-of_z w64 n (record { sfits = h }) ∙ found-sum d bad status out kept e f)

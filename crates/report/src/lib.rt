@@ -9,8 +9,10 @@ ghost use Rattle.text.specs.Puts.{Put};
 ghost use Rattle.report.specs.Output.{lines_of, report_bytes};
 ghost use Rattle.report.specs.Certified.{Reports};
 
+use lines::Report;
+
 // Room for any report.
-pub const REPORT_BYTES: usize = 100000;
+pub const REPORT_BYTES: usize = 100_000;
 
 // Take-back, and its report.
 pub fn report_on(
@@ -22,8 +24,9 @@ pub fn report_on(
     copy: &mut [u8],
     out: &mut [u8],
 ) -> usize
-    requires { (new.old ≡ old.now) × (length status.old ≡ status_bytes) × (report_bytes ≤ length out.old)
-        × (length old.now ≤ 16005) }
+    requires same { new.old ≡ old.now }
+    requires marks { length status.old ≡ status_bytes }
+    requires room { report_bytes ≤ length out.old }
     ensures text { Put 0
         (lines_of (inputs_of journal.now old.now)
         (calls.undo (inputs_of journal.now old.now) bad.now status.old
@@ -32,8 +35,12 @@ pub fn report_on(
         copy.old (take result out.new) }
 {
     let answer = certified::undo(journal, new, bad, status, copy);
-    let n = decode::count_in(journal);
-    let change = net::net_in(copy);
-    let sum = text::by_sign(change);
-    lines::put_answer(out, answer, n, status, old, new, sum)
+    let report = Report {
+        records: decode::count_in(journal),
+        status,
+        old,
+        new,
+        sum: net::net_in(copy),
+    };
+    report.put_answer(answer, out)
 }

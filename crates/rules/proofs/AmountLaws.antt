@@ -1,18 +1,18 @@
 -- The standing amount of an item, from the records of its last write and of the first write by the same transaction.
 -- Assumes nothing.
 use mathlib.Core.Path.{◌≡◌, refl, sym, ◌∙◌, ap}
-use mathlib.Core.Bool.{false≢true, true, cond}
+use mathlib.Core.Bool.{false≢true, true, false, cond}
+use mathlib.Core.Logic.{◌⊎◌, inl, inr}
 use mathlib.Core.List.{List}
 use mathlib.Core.Option.{some, none-ne-some}
 use Prim.Native.Nat.{ℕ, ◌+◌, ◌*◌, ◌<◌, ◌≤◌}
 use native.Mathlib.Omega.{arith}
 use lib.IntN.{pos}
 use lib.Dec.{eqb}
-use lib.ListN.{length, get_or}
-use borrow.Author.Tests.{ne_eqb}
 use mir.Syntax.{w32}
 use mir.Val.{to_z, of_z, SFits}
 use mir.ValLaws.{to_z-of_z}
+use lib.ListN.{length, get_or}
 use Rattle.lists.proofs.SearchLaws.{any-latest, latest-passes, first_some}
 use Rattle.format.specs.declared.Record.{Record}
 use Rattle.format.specs.Layout.{record_at}
@@ -21,11 +21,14 @@ use Rattle.model.proofs.Ends.{write-to}
 use Rattle.model.proofs.Opening.{Passing}
 use Rattle.journal.specs.Journal.{tx_in, op_of, history}
 use Rattle.journal.proofs.Records.{by_kind, tx_of-op_of}
+use Rattle.arrays.specs.declared.end.End.{End}
+use Rattle.arrays.specs.declared.end.End.TheVariants.{Open, Committed, Aborted}
+use Rattle.arrays.specs.Ends.{code_of, codes}
 use Rattle.arrays.specs.Recent.{end_code, last_write, base_write}
 use Rattle.arrays.specs.Arrays.{Ready, ends_of, writes_of, bases_of}
 use Rattle.arrays.proofs.Found.{base-found, found_none, found-bound, found_some, passing-history}
 use Rattle.arrays.proofs.ArraysLaws.{ends-array, bases-array}
-use Rattle.arrays.proofs.WriterLaws.{last_some, last-range}
+use Rattle.arrays.proofs.WriterLaws.{code-at, last_some, last-low}
 use Rattle.rules.proofs.Recent.{own-write, base-first, standing-last}
 
 some_same : {a b : Op} → some a ≡ some b → a ≡ b
@@ -54,42 +57,43 @@ pub base-long : (b : List ℕ) (n x f : ℕ) (l : List ℕ) → Ready b n → l 
 base-long b n x f l k e h q =
     let z : f ≤ n = rw (q, e, (bases-array (history b n)).at x 0 h) (found-bound (base-found x b n)) in omega (arith, k.long)
 
-module _ (b : List ℕ) (n x w v : ℕ) (l m : List ℕ) (k : Ready b n) (e : l ≡ writes_of (history b n)) (h : x < 1024) (q : w ≡ get_or l x 0)
-    (z : get_or l x 0 ≡ 0 → ⊥) (t : v ≡ tx_in (record_at b w)) (g : m ≡ ends_of (history b n)) where
+module _ (b : List ℕ) (n x w v : ℕ) (l : List ℕ) (ends : List End) (k : Ready b n) (e : l ≡ writes_of (history b n)) (h : x < 1024) (q : w ≡ get_or l x 0)
+    (z : get_or l x 0 ≡ 0 → ⊥) (t : v ≡ tx_in (record_at b w)) (g : codes ends ≡ ends_of (history b n)) where
   last_one : last_write (history b n) x ≡ some (op_of w (record_at b w))
   last_one = last_some b n x w l k e h q (λ y. z (sym q ∙ y))
 
   writes-x : write_to x (op_of w (record_at b w)) ≡ true
   writes-x = latest-passes (write_to x) (history b n) last_one
 
-  pub last-ends : v < length m
-  last-ends = last-range b n x w l k e h q v m (λ y. z (sym q ∙ y)) t g
+  pub last-ends : v < 1025
+  last-ends = last-low b n x w l k e h q v (λ y. z (sym q ∙ y)) t
 
-  end-at : get_or m v 0 ≡ end_code (history b n) (tx_of (op_of w (record_at b w)))
-  end-at =
-      let a = last-range b n x w l k e h q v m (λ y. z (sym q ∙ y)) t g in
-      let d : v < 1025 = omega (arith, (ends-array (history b n)).size, ap length g) in
-      rw (g, (ends-array (history b n)).at v 0 d, t, tx_of-op_of w (record_at b w))
+  end-at : code_of (get_or ends v Open) ≡ end_code (history b n) (tx_of (op_of w (record_at b w)))
+  end-at = sym (code-at ends v) ∙ rw (g, (ends-array (history b n)).at v 0 last-ends, t, tx_of-op_of w (record_at b w))
 
-  stands : (d : Amount) → standing d (history b n) x ≡ cond (eqb (get_or m v 0) 2) (before_in (base_write (history b n) x) (pos 0)) (after_of (op_of w (record_at b w)) (pos 0))
+  stands : (d : Amount) → standing d (history b n) x ≡ cond (eqb (code_of (get_or ends v Open)) 2) (before_in (base_write (history b n) x) (pos 0)) (after_of (op_of w (record_at b w)) (pos 0))
   stands d = standing-last d x (history b n) (passing-history b n k.passed) last_one ∙ rw (last_one, end-at)
 
-  pub standing-after : (r : Record) (end : ℕ) → end ≡ get_or m v 0 → (end ≡ 2 → ⊥) → r ≡ record_at b w → SFits w32 r.after → to_z w32 (of_z w32 r.after) ≡ standing (pos 0) (history b n) x
-  standing-after r end d y c f =
-      to_z-of_z w32 r.after f ∙ ap (λ u. u.after) c ∙ sym (stands (pos 0) ∙ rw (← d, ne_eqb end 2 y) (write-after w (record_at b w) x (pos 0) writes-x))
+  pub standing-after : (r : Record) → (get_or ends v Open ≡ Open) ⊎ (get_or ends v Open ≡ Committed) → r ≡ record_at b w → SFits w32 r.after → to_z w32 (of_z w32 r.after) ≡ standing (pos 0) (history b n) x
+  standing-after r y c f =
+      to_z-of_z w32 r.after f ∙ ap (λ u. u.after) c ∙ sym (stands (pos 0) ∙ rw (kept y) (write-after w (record_at b w) x (pos 0) writes-x))
+    where
+      kept : (get_or ends v Open ≡ Open) ⊎ (get_or ends v Open ≡ Committed) → eqb (code_of (get_or ends v Open)) 2 ≡ false
+      kept (inl o) = rw o
+      kept (inr o) = rw o
 
-  pub standing-before : (r : Record) (o : List ℕ) (j end : ℕ) → end ≡ get_or m v 0 → end ≡ 2 → o ≡ bases_of (history b n) → j ≡ get_or o x 0 → r ≡ record_at b j → SFits w32 r.before
-      → to_z w32 (of_z w32 r.before) ≡ standing (pos 0) (history b n) x
-  standing-before r o j end d y i p c f =
+  pub standing-before : (r : Record) (o : List ℕ) (j : ℕ) → get_or ends v Open ≡ Aborted → o ≡ bases_of (history b n) → j ≡ get_or o x 0 → r ≡ record_at b j
+      → SFits w32 r.before → to_z w32 (of_z w32 r.before) ≡ standing (pos 0) (history b n) x
+  standing-before r o j y i p c f =
       let (u, s, a) = base-some x (history b n) (passing-history b n k.passed) last_one in
       let tag : j ≡ tag_in (base_write (history b n) x) = p ∙ rw i ((bases-array (history b n)).at x 0 h) in
       let found = found_some (base-found x b n) (λ zero. none-ne-some u (sym (found_none (base-found x b n) zero) ∙ s)) in
       let same : u ≡ op_of j (record_at b j) = some_same (sym s ∙ found ∙ ap (λ t. some (op_of t (record_at b t))) (sym tag)) in
       to_z-of_z w32 r.before f ∙ ap (λ u. u.before) c
-      ∙ sym (stands (pos 0) ∙ rw (← d, y, s, same) (write-before j (record_at b j) x (pos 0) (rw (← same) a)))
+      ∙ sym (stands (pos 0) ∙ rw (y, s, same) (write-before j (record_at b j) x (pos 0) (rw (← same) a)))
 
 -- whatever the table has
-pub standing-any : (b : List ℕ) (n x : ℕ) (l : List ℕ) (d : Amount) → Ready b n → l ≡ writes_of (history b n) → x < 1024 → (get_or l x 0 ≡ 0 → ⊥)
-    → standing d (history b n) x ≡ standing (pos 0) (history b n) x
-standing-any b n x l d k e h z =
-    let a = stands b n x (get_or l x 0) _ l _ k e h refl z refl refl in a d ∙ sym (a (pos 0))
+pub standing-any : (b : List ℕ) (n x : ℕ) (l : List ℕ) (ends : List End) (d : Amount) → Ready b n → l ≡ writes_of (history b n) → x < 1024 → (get_or l x 0 ≡ 0 → ⊥)
+    → codes ends ≡ ends_of (history b n) → standing d (history b n) x ≡ standing (pos 0) (history b n) x
+standing-any b n x l ends d k e h z g =
+    let a = stands b n x (get_or l x 0) _ l ends k e h refl z refl g in a d ∙ sym (a (pos 0))

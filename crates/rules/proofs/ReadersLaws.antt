@@ -7,21 +7,21 @@ use Prim.Native.Nat.{ℕ, ◌+◌, ◌*◌, ◌<◌, ◌≤◌}
 use native.Mathlib.Omega.{arith}
 use lib.Dec.{eqb}
 use lib.ListN.{length, get_or}
+use Rattle.std.proofs.lemmas.List.{length-map}
 use Rattle.lists.specs.Search.{any}
 use Rattle.format.specs.Layout.{record_at}
 use Rattle.model.specs.History.{of_tx}
 use Rattle.journal.specs.Journal.{tx_in, history}
 use Rattle.arrays.specs.declared.Touched.{Touched}
+use Rattle.arrays.specs.declared.end.End.{End}
+use Rattle.arrays.specs.Ends.{code_of, codes}
 use Rattle.arrays.specs.Recent.{other_active, reads_since, newest}
 use Rattle.arrays.specs.Arrays.{Ready, Linked, ends_of, reads_of, read_before}
 use Rattle.arrays.specs.Writers.{looked}
 use Rattle.arrays.proofs.Found.{passed-range}
 use Rattle.arrays.proofs.ArraysLaws.{ends-array, reads-array}
-use Rattle.rules.specs.Answers.{read_by_other, readers_of}
+use Rattle.rules.specs.Readers.{read_by_other, readers_of}
 use Rattle.rules.proofs.Walk.{ReadAt, among, newest-bound, newest-is-read, among-newest, among_none, among-step, before-less, before-read}
-
-pub reads_in : (b : List ℕ) (n x : ℕ) (l : List ℕ) → l ≡ reads_of (history b n) → x < 1024 → x < length l
-reads_in b n x l e h = rw (e, (reads-array (history b n)).size) h
 
 -- ---- the readers since
 
@@ -47,13 +47,14 @@ module _ (b : List ℕ) (n s x : ℕ) (f : Touched) (k : ℕ) (all : Touched) (w
   pub walked-long : Ready b n → 20 * (k + 1) ≤ length b
   walked-long r = omega (arith, w.low, r.long)
 
-  pub walked-in : (l : List ℕ) → Ready b n → Linked b n l → k < length l
-  walked-in l r i = omega (arith, w.low, r.few, i.size)
+  pub walked-in : Ready b n → k < 3201
+  walked-in r = omega (arith, w.low, r.few)
 
-  pub walked-range : (v : ℕ) (m : List ℕ) → Ready b n → (k ≡ 0 → ⊥) → v ≡ tx_in (record_at b k) → m ≡ ends_of (history b n) → v < length m
-  walked-range v m r z y e =
-      let a = passed-range b n r.passed k (omega arith) w.low in
-      rw (e, (ends-array (history b n)).size) (omega arith)
+  walked-low : (v : ℕ) → Ready b n → (k ≡ 0 → ⊥) → v ≡ tx_in (record_at b k) → v < 1025
+  walked-low v r z y = let a = passed-range b n r.passed k (omega arith) w.low in omega (arith, y)
+
+  pub walked-range : (v : ℕ) (ends : List End) → Ready b n → (k ≡ 0 → ⊥) → v ≡ tx_in (record_at b k) → codes ends ≡ ends_of (history b n) → v < length ends
+  walked-range v ends r z y e = let a = walked-low v r z y in omega (arith, (ends-array (history b n)).size, ap length e, length-map ends code_of)
 
   pub walked-less : (l : List ℕ) (j : ℕ) → Linked b n l → (k ≡ 0 → ⊥) → j ≡ get_or l k 0 → j < k
   walked-less l j i z q = rw (q, i.link k (omega arith) w.low (w.read z).kind) (before-less b k z)
@@ -62,8 +63,7 @@ module _ (b : List ℕ) (n s x : ℕ) (f : Touched) (k : ℕ) (all : Touched) (w
       → Linked b n l → j ≡ get_or l k 0 → Walked b n s x f j more
   unfolding looked
   walked_step v m l j more r z y e g i q =
-      let c = walked-range v m r z y e in
-      let d : v < 1025 = omega (arith, (ends-array (history b n)).size, ap length e) in
+      let d = walked-low v r z y in
       let t : j ≡ read_before b k = q ∙ i.link k (omega arith) w.low (w.read z).kind in
       let less = walked-less l j i z q in
       rw (g, e, (ends-array (history b n)).at v 0 d)

@@ -9,8 +9,9 @@ use Prim.Native.Nat.{ℕ}
 use lib.IntN.{pos}
 use lib.Dec.{eqb}
 use borrow.Author.Tests.{eqb-true, eq-eqb, not-false}
+use Rattle.std.proofs.lemmas.Bool.{and_from, not-true, or_left, or_right}
 use Rattle.lists.specs.Search.{any, or_else, first}
-use Rattle.lists.proofs.BoolLaws.{by_cases, or_left, or_right, or_cases, and_left, and_right, or-false-right, and_both, same_truth, not-both}
+use Rattle.lists.proofs.BoolLaws.{by_cases, or_cases, and_left, and_right, or-false-right, same_truth}
 use Rattle.lists.proofs.SearchLaws.{any-mono, any_some, any-latest, latest-passes, first-none, first_some}
 use Rattle.model.specs.History.{Op, History, Amount, read, write, commit, abort, other, tx_of, before_of, after_of, of_tx, read_of, write_of, access_of, write_to, access_to, ended, before_in, current, initial, standing}
 use Rattle.model.specs.Rules.{by_other}
@@ -20,7 +21,7 @@ use Rattle.model.proofs.Strict.{neq-sym, not_conflicting-any}
 use Rattle.model.proofs.Opening.{Passing, step}
 use Rattle.arrays.specs.Recent.{end_code, other_active, last_write, by_tx, by_other_active, base_write, reads_since}
 use Rattle.arrays.proofs.EndCodes.{ended-code, active-code}
-use Rattle.rules.specs.Answers.{read_by_other}
+use Rattle.rules.specs.Readers.{read_by_other}
 use Rattle.rules.specs.Standing.{standing_of}
 
 -- ---- ends
@@ -113,7 +114,7 @@ module _ (p : History) (k : Passing p) where
   strange s r = not (eqb s (tx_of r)) && not (ended p (tx_of r))
 
   open_of : (s v : ℕ) → not (eqb s v) && not (ended p v) ≡ true → ended p v ≡ false
-  open_of s v h = not-both (ended p v) (and_right (not (eqb s v)) _ h)
+  open_of s v h = not-true (ended p v) (and_right (not (eqb s v)) _ h)
 
   by-tx-self : (s v : ℕ) (o : Option Op) → by_tx o v ≡ true → not (eqb s v) && not (ended p v) ≡ true → by_other_active p s o ≡ true
   by-tx-self s v none e h = e
@@ -137,7 +138,7 @@ module _ (p : History) (k : Passing p) where
           found none q h = absurd (false≢true h)
           found (some w) q h =
               any-latest (write_to x) (λ r. write_to x r && strange s r) p q
-              (and_both _ _ (latest-passes (write_to x) p q) (sym (other-active p s (tx_of w)) ∙ h))
+              (and_from _ _ (latest-passes (write_to x) p q) (sym (other-active p s (tx_of w)) ∙ h))
 
   -- and one that has read it has done so since
   pub other-access : (s x : ℕ) → by_other (access_to x) p s ≡ by_other_active p s (last_write p x) || read_by_other p s x
@@ -157,7 +158,7 @@ module _ (p : History) (k : Passing p) where
       access : (v : ℕ) → not (eqb s v) && not (ended p v) ≡ true → by_tx (last_write p x) v || any (of_tx v) (reads_since x p) ≡ true → by_other (access_to x) p s ≡ true
       access v o h =
           any-mono (access_of v x) (λ r. access_to x r && strange s r)
-          (λ r g. and_both _ _ (access-to v x r g) (rw (access-of v x r g) at o)) p
+          (λ r g. and_from _ _ (access-to v x r g) (rw (access-of v x r g) at o)) p
           (open-accesses x v p k (open_of s v o) ∙ h)
 
       writer : (o : Option Op) → last_write p x ≡ o → by_other_active p s o ≡ true → by_other (access_to x) p s ≡ true

@@ -3,12 +3,13 @@
 use mathlib.Core.Path.{◌≡◌, refl, sym, ◌∙◌, ap}
 use mathlib.Core.Bool.{Bool, true, false, cond, not, not-not}
 use mathlib.Core.List.{List}
+use mathlib.Core.Logic.{◌⊎◌, inl, inr}
 use mathlib.Core.Option.{Option, none, some}
 use Prim.Native.Nat.{ℕ, ◌+◌, ◌<◌}
 use native.Mathlib.Omega.{arith}
 use lib.IntN.{pos}
 use lib.Dec.{eqb}
-use lib.ListN.{length, get_or}
+use lib.ListN.{get_or}
 use borrow.Author.Tests.{ne_eqb, not-true, not-false}
 use mir.Syntax.{w32}
 use mir.Val.{to_z, of_z, SFits}
@@ -18,23 +19,26 @@ use Rattle.lists.proofs.SearchLaws.{latest-passes, any-latest, latest-none}
 use Rattle.format.specs.declared.Record.{Record}
 use Rattle.model.specs.History.{Op, History, Amount, Tag, same_amount, read, write, commit, abort, other, tx_of, write_to, ended, standing}
 use Rattle.model.specs.Rules as rules
-use Rattle.journal.specs.Journal.{items, tx_in, op_of, history}
+use Rattle.journal.specs.Journal.{tx_in, op_of, history}
 use Rattle.journal.specs.Refusals.{malformed, terminated, conflicting, blind, mismatched}
 use Rattle.journal.specs.Orders.{Refusal, access_order, rule_order, decide}
 use Rattle.journal.proofs.Records.{tx_of-op_of}
 use Rattle.journal.proofs.Unrefused.{op_of-read, op_of-write}
 use Rattle.journal.proofs.OrdersLaws.{or_else-none, or_else-assoc, decide-try, decide-turn, decide-over}
-use Rattle.fields.proofs.Fields.{formed-range}
+use Rattle.fields.proofs.Fields.{same_bits, formed-range}
 use Rattle.arrays.specs.declared.Touched.{Touched}
+use Rattle.arrays.specs.declared.end.End.{End}
+use Rattle.arrays.specs.declared.end.End.TheVariants.{Open, Committed, Aborted}
+use Rattle.arrays.specs.Ends.{code_of, codes}
 use Rattle.arrays.specs.Recent.{end_code, last_write, by_other_active}
 use Rattle.arrays.specs.Arrays.{Ready, NoBlindTo, ends_of, writes_of}
 use Rattle.arrays.specs.Writers.{writer_of}
 use Rattle.arrays.proofs.EndCodes.{ended-code}
 use Rattle.arrays.proofs.Found.{passing-history, no_blind-history}
 use Rattle.arrays.proofs.ArraysLaws.{ends-array}
-use Rattle.arrays.proofs.WriterLaws.{last_none, last_some}
+use Rattle.arrays.proofs.WriterLaws.{code-at, last_none, last_some}
 use Rattle.rules.specs.Standing.{unlike_standing}
-use Rattle.rules.specs.Answers.{readers_of}
+use Rattle.rules.specs.Readers.{readers_of}
 use Rattle.rules.proofs.Recent.{open-reads, other-writer, other-access}
 
 -- what is returned for number k at record i
@@ -52,20 +56,17 @@ rule-parts p i o = simp (decide-turn, decide-over, decide-try, or_else-none, or_
 
 -- ---- rules 6 to 9
 
-pub no_end : (m : List ℕ) (s end : ℕ) → end ≡ get_or m s 0 → end ≡ 0 → get_or m s 0 ≡ 0
-no_end m s end q z = sym q ∙ z
-
 -- operations of transaction s
-module _ (b : List ℕ) (n s : ℕ) (k : Ready b n) (l : s < 1025) (m : List ℕ) (g : m ≡ ends_of (history b n)) where
-  end_is : get_or m s 0 ≡ end_code (history b n) s
-  end_is = rw (g, (ends-array (history b n)).at s 0 l)
+module _ (b : List ℕ) (n s : ℕ) (k : Ready b n) (l : s < 1025) (ends : List End) (g : codes ends ≡ ends_of (history b n)) where
+  end_is : code_of (get_or ends s Open) ≡ end_code (history b n) s
+  end_is = sym (code-at ends s) ∙ rw (g, (ends-array (history b n)).at s 0 l)
 
-  terminated-is : (o : Op) → tx_of o ≡ s → terminated (history b n) o ≡ not (eqb (get_or m s 0) 0)
+  terminated-is : (o : Op) → tx_of o ≡ s → terminated (history b n) o ≡ not (eqb (code_of (get_or ends s Open)) 0)
   unfolding terminated
   terminated-is o w = rw (w, end_is) (ended-code (history b n) s)
 
   -- s has not ended
-  module _ (z : get_or m s 0 ≡ 0) where
+  module _ (z : get_or ends s Open ≡ Open) where
     unended : ended (history b n) s ≡ false
     unended = ended-code (history b n) s ∙ rw (← end_is, z)
 
@@ -107,10 +108,7 @@ module _ (b : List ℕ) (n s : ℕ) (k : Ready b n) (l : s < 1025) (m : List ℕ
           pub write-blind : u.own ≡ false → at 8 (n + 1) ≡ decide (rule_order (history b n) (n + 1) o)
           write-blind e = rw (rest o refl, conflict-is, h, blind-is f, e)
 
-          pub write-matched : u.own ≡ true → mismatched (history b n) o ≡ false → none ≡ decide (rule_order (history b n) (n + 1) o)
-          write-matched e y = rw (rest o refl, conflict-is, h, blind-is f, e, y)
-
-          -- d compared with the standing amount, read back from its bits
+          -- d compared with the standing amount
           module _ (e : u.own ≡ true) (p : Bool) (i : SFits w32 d) (q : p ≡ not (unlike_standing (history b n) x (to_z w32 (of_z w32 d)))) where
             last-is : decide (rule_order (history b n) (n + 1) o) ≡ cond (unlike_standing (history b n) x d) (at 9 (n + 1)) none
             unfolding unlike_standing mismatched
@@ -126,35 +124,35 @@ module _ (b : List ℕ) (n s : ℕ) (k : Ready b n) (l : s < 1025) (m : List ℕ
             write-wrong y = rw (last-is, not-false (unlike_standing (history b n) x d) (sym unlike ∙ y))
 
 -- of a record that is not malformed
-module _ (b : List ℕ) (n : ℕ) (r : Record) (k : Ready b n) (f : malformed (items b) r ≡ false) where
+module _ (b : List ℕ) (n m : ℕ) (r : Record) (k : Ready b n) (f : malformed m r ≡ false) where
   pub tx-low : tx_in r < 1025
-  tx-low = let a = formed-range (items b) r f in omega arith
+  tx-low = let a = formed-range m r f in omega arith
 
-  module _ (m : List ℕ) (g : m ≡ ends_of (history b n)) where
-    pub tx-in : tx_in r < length m
-    tx-in = rw (g, (ends-array (history b n)).size) tx-low
+  module _ (ends : List End) (g : codes ends ≡ ends_of (history b n)) where
+    -- 6
+    pub rule-terminated : (get_or ends (tx_in r) Open ≡ Committed) ⊎ (get_or ends (tx_in r) Open ≡ Aborted) → at 6 (n + 1) ≡ decide (rule_order (history b n) (n + 1) (op_of (n + 1) r))
+    rule-terminated z =
+        rw (rule-parts (history b n) (n + 1) (op_of (n + 1) r), terminated-is b n (tx_in r) k tx-low ends g (op_of (n + 1) r) (tx_of-op_of (n + 1) r), not-open z)
+      where
+        not-open : (get_or ends (tx_in r) Open ≡ Committed) ⊎ (get_or ends (tx_in r) Open ≡ Aborted) → eqb (code_of (get_or ends (tx_in r) Open)) 0 ≡ false
+        not-open (inl e) = rw e
+        not-open (inr e) = rw e
 
-    module _ (end : ℕ) (q : end ≡ get_or m (tx_in r) 0) where
-      -- 6
-      pub rule-terminated : (end ≡ 0 → ⊥) → at 6 (n + 1) ≡ decide (rule_order (history b n) (n + 1) (op_of (n + 1) r))
-      rule-terminated z =
-          rw (rule-parts (history b n) (n + 1) (op_of (n + 1) r), terminated-is b n (tx_in r) k tx-low m g (op_of (n + 1) r) (tx_of-op_of (n + 1) r), ← q, ne_eqb end 0 z)
+    -- an end
+    pub rule_end : get_or ends (tx_in r) Open ≡ Open → (r.kind ≡ 1 → ⊥) → (r.kind ≡ 2 → ⊥) → none ≡ decide (rule_order (history b n) (n + 1) (op_of (n + 1) r))
+    unfolding op_of conflicting blind mismatched
+    rule_end z c d =
+        rw (rest b n (tx_in r) k tx-low ends g z (op_of (n + 1) r) (tx_of-op_of (n + 1) r), ne_eqb r.kind 1 c, ne_eqb r.kind 2 d)
+        (two (eqb r.kind 3) (eqb r.kind 4))
+      where
+        of : Bool → Bool → Op
+        of e g = cond e (commit (n + 1) (tx_in r)) (cond g (abort (n + 1) (tx_in r)) (other (n + 1) (tx_in r)))
 
-      -- an end
-      pub rule_end : end ≡ 0 → (r.kind ≡ 1 → ⊥) → (r.kind ≡ 2 → ⊥) → none ≡ decide (rule_order (history b n) (n + 1) (op_of (n + 1) r))
-      unfolding op_of conflicting blind mismatched
-      rule_end z c d =
-          rw (rest b n (tx_in r) k tx-low m g (sym q ∙ z) (op_of (n + 1) r) (tx_of-op_of (n + 1) r), ne_eqb r.kind 1 c, ne_eqb r.kind 2 d)
-          (two (eqb r.kind 3) (eqb r.kind 4))
-        where
-          of : Bool → Bool → Op
-          of e g = cond e (commit (n + 1) (tx_in r)) (cond g (abort (n + 1) (tx_in r)) (other (n + 1) (tx_in r)))
-
-          two : (e g : Bool)
-              → none ≡ later (rules.conflicting (history b n) (of e g)) (rules.blind (history b n) (of e g)) (rules.mismatched (history b n) (of e g)) (n + 1)
-          two true g = refl
-          two false true = refl
-          two false false = refl
+        two : (e g : Bool)
+            → none ≡ later (rules.conflicting (history b n) (of e g)) (rules.blind (history b n) (of e g)) (rules.mismatched (history b n) (of e g)) (n + 1)
+        two true g = refl
+        two false true = refl
+        two false false = refl
 
 -- what is found of the read or the write that a record is, is found of the record
 module _ (p : History) (i : Tag) (r : Record) (v : Option Refusal) where
@@ -167,29 +165,19 @@ module _ (p : History) (i : Tag) (r : Record) (v : Option Refusal) where
         → v ≡ decide (rule_order p i (op_of i r))
     of-write f h = h r.after ∙ rw (to_z-of_z w32 r.before f, op_of-write i r e)
 
-    pub of-matched : mismatched p (op_of i r) ≡ false
-        → ((d a : Amount) → mismatched p (write i (tx_in r) r.item.0 d a) ≡ false → v ≡ decide (rule_order p i (write i (tx_in r) r.item.0 d a)))
-        → v ≡ decide (rule_order p i (op_of i r))
-    of-matched f h = h r.before r.after (rw (op_of-write i r e) at f) ∙ rw (op_of-write i r e)
-
 -- ---- rule 9
 
 module _ (b : List ℕ) (n x j : ℕ) (l : List ℕ) (k : Ready b n) (d : l ≡ writes_of (history b n)) (e : x < 1024) (q : j ≡ get_or l x 0) (a : Amount) where
   -- no earlier write
-  pub unlike-unwritten : j ≡ 0 → true ≡ not (unlike_standing (history b n) x a)
+  pub unlike-unwritten : j ≡ 0 → eqb j 0 ≡ not (unlike_standing (history b n) x a)
   unfolding unlike_standing
-  unlike-unwritten y = rw (latest-none (write_to x) (history b n) (last_none b n x j l k d e q y))
+  unlike-unwritten y = rw (y, latest-none (write_to x) (history b n) (last_none b n x j l k d e q y))
 
   written : (j ≡ 0 → ⊥) → any (write_to x) (history b n) ≡ true
   written y =
       let s = last_some b n x j l k d e q y in any-latest (write_to x) (write_to x) (history b n) s (latest-passes (write_to x) (history b n) s)
 
   -- a compared with the standing amount s
-  unlike-written : (s : Amount) (p : Bool) → (j ≡ 0 → ⊥) → s ≡ standing (pos 0) (history b n) x → p ≡ same_amount a s → p ≡ not (unlike_standing (history b n) x a)
+  pub unlike-written : (s : Amount) → (j ≡ 0 → ⊥) → s ≡ standing (pos 0) (history b n) x → SFits w32 a → SFits w32 s → eqb (of_z w32 a) (of_z w32 s) ≡ not (unlike_standing (history b n) x a)
   unfolding unlike_standing
-  unlike-written s p y c f = f ∙ rw (written y, c) (sym (not-not (same_amount a (standing (pos 0) (history b n) x))))
-
-  -- each read back from its bits
-  pub unlike-bits : (s : Amount) (p : Bool) → (j ≡ 0 → ⊥) → s ≡ standing (pos 0) (history b n) x → SFits w32 a → SFits w32 s → p ≡ same_amount (to_z w32 (of_z w32 a)) (to_z w32 (of_z w32 s))
-      → p ≡ not (unlike_standing (history b n) x a)
-  unlike-bits s p y c fa fs f = unlike-written s p y c (f ∙ rw (to_z-of_z w32 a fa, to_z-of_z w32 s fs))
+  unlike-written s y c fa fs = same_bits a s fa fs ∙ rw (written y, c) (sym (not-not (same_amount a (standing (pos 0) (history b n) x))))

@@ -8,7 +8,7 @@ use Prim.Native.Nat.{ℕ, zero, suc, ◌+◌, ◌-◌, ◌<◌, ◌≤◌}
 use native.Mathlib.Omega.{arith}
 use native.Mathlib.Numerals.{add-one}
 use lib.Dec.{eqb, leb}
-use lib.ListN.{length, get_or, set, replicate}
+use lib.ListN.{get_or, set, replicate}
 use borrow.Author.Tests.{eqb-true, eqb-false, eq-eqb, ne_eqb, lt-ltb, le-ltb, le-leb, lt-leb}
 use Rattle.lists.specs.Search.{first, or_else}
 use Rattle.lists.proofs.BoolLaws.{by_cases}
@@ -129,7 +129,10 @@ module _ (b : List ℕ) where
 
 -- ---- one record back, as the code goes
 
-module _ (b : List ℕ) (j s low : ℕ) (h : j < count b) (e : s ≡ tx_in (record_at b (j + 1))) where
+module _ (b : List ℕ) (all j s low : ℕ) (c : all ≡ count b) (below : j < all) (e : s ≡ tx_in (record_at b (j + 1))) where
+  h : j < count b
+  h = omega arith
+
   pub back_above : 1024 < s → low ≡ cond (broken b (j + 1)) (j + 1) low
   unfolding broken
   back_above a = rw (lt-leb (tx_in (record_at b (j + 1))) 1024 (rw e at a))
@@ -154,10 +157,7 @@ module _ (b : List ℕ) (j s low : ℕ) (h : j < count b) (e : s ≡ tx_in (reco
     back-wrong w =
         rw (ne_eqb (record_at b (j + 1)).next.0 _ (λ z. w (m ∙ z ∙ sym slot)), le-leb (tx_in (record_at b (j + 1))) 1024 (rw e at a))
 
-pub slot-in : (l : List ℕ) (s : ℕ) (b : List ℕ) (i : ℕ) → l ≡ nexts_of b i → s ≤ 1024 → s < length l
-slot-in l s b i e h = rw (e, (nexts-array b i).size) (omega arith)
-
--- ---- the loop
+-- ---- the loop: records j + 1 on, of n
 
 pub back_start : (b : List ℕ) (n : ℕ) → n ≡ count b → replicate 1025 0 ≡ nexts_of b n
 back_start b n e = rw e (nexts-last b)
@@ -165,19 +165,13 @@ back_start b n e = rw e (nexts-last b)
 pub back-start-low : (b : List ℕ) (n : ℕ) → 0 ≡ lowest_broken b (n + 1) (n - n)
 back-start-low b n = let e : n - n ≡ 0 = omega arith in rw e (sym (lowest-zero b (n + 1)))
 
-pub back_step : (b : List ℕ) (n i r low : ℕ) → (i ≡ 0 → ⊥) → i ≤ n → low ≡ lowest_broken b (i + 1) (n - i) → r ≡ cond (broken b (i - 1 + 1)) (i - 1 + 1) low
+pub back_step : (b : List ℕ) (n i r low : ℕ) → 0 < i → i ≤ n → low ≡ lowest_broken b (i + 1) (n - i) → r ≡ cond (broken b (i - 1 + 1)) (i - 1 + 1) low
     → r ≡ lowest_broken b (i - 1 + 1) (n - (i - 1))
 back_step b n i r low h l q e =
     let f : n - (i - 1) ≡ suc (n - i) = omega arith in
     let g : suc (i - 1 + 1) ≡ i + 1 = omega arith in
     e ∙ rw (f, lowest-suc b (i - 1 + 1) (n - i), g) (ap (cond (broken b (i - 1 + 1)) (i - 1 + 1)) q)
 
-pub back_done : (b : List ℕ) (n i low : ℕ) → i ≡ 0 → low ≡ lowest_broken b (i + 1) (n - i) → low ≡ lowest_broken b 1 n
-back_done b n i low e q =
-    let f : i + 1 ≡ 1 = omega arith in let g : n - i ≡ n = omega arith in rw (f, g) at q
-
-pub slots-count : (l : List ℕ) (b : List ℕ) (i : ℕ) → l ≡ nexts_of b i → 1025 ≡ length l
-slots-count l b i e = rw (e, (nexts-array b i).size)
-
-pub slots_same : (l b : List ℕ) (i : ℕ) → (i ≡ 0 → ⊥) → l ≡ nexts_of b i → l ≡ nexts_of b (i - 1 + 1)
-slots_same l b i h e = let f : i - 1 + 1 ≡ i = omega arith in rw f e
+pub back_done : (b : List ℕ) (n j low : ℕ) → j ≡ 0 → low ≡ lowest_broken b (j + 1) (n - j) → low ≡ lowest_broken b 1 n
+back_done b n j low e q =
+    let f : j + 1 ≡ 1 = omega arith in let g : n - j ≡ n = omega arith in rw (f, g) at q

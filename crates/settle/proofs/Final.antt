@@ -1,7 +1,8 @@
 -- What check answers once the records passed: rule 10 item by item, and the number of active transactions.
 -- Assumes nothing.
-use mathlib.Core.Path.{◌≡◌, refl, sym, ◌∙◌, ap}
-use mathlib.Core.Bool.{Bool, true, false, cond, not, ◌&&◌}
+use mathlib.Core.Path.{◌≡◌, sym, ◌∙◌, ap}
+use mathlib.Core.Bool.{Bool, true, false, cond, not, not-not, and-true, and-false}
+use mathlib.Core.Logic.{◌⊎◌, inl, inr}
 use mathlib.Core.List.{List}
 use mathlib.Core.Option.{none, some}
 use Prim.Native.Nat.{ℕ, suc, ◌+◌, ◌-◌, ◌<◌, ◌≤◌}
@@ -12,27 +13,28 @@ use lib.Dec.{eqb}
 use lib.ListN.{get_or}
 use borrow.Author.Tests.{ne_eqb, not-true, not-false}
 use mir.Syntax.{w32}
-use mir.Val.{to_z, of_z, SFits}
-use mir.ValLaws.{to_z-of_z}
+use mir.Val.{of_z, SFits}
 use Rattle.lists.specs.Search.{any, first}
 use Rattle.lists.specs.Tables.{count_if}
 use Rattle.lists.proofs.BoolLaws.{by_cases}
 use Rattle.lists.proofs.SearchLaws.{latest-none, any-latest, latest-passes, first-none, first_some}
-use Rattle.lists.proofs.TablesLaws.{count_if-zero, count_if-last, count_if-ext}
-use Rattle.model.specs.History.{Op, Amount, same_amount, write_to, of_tx, tag_in, active, standing}
+use Rattle.lists.proofs.TablesLaws.{count_if-zero, count_if-last}
+use Rattle.model.specs.History.{Op, Amount, same_amount, write_to, of_tx, tag_in, ended, active, standing}
 use Rattle.journal.specs.Inputs.{inputs_of}
 use Rattle.journal.specs.Journal.{count, items, history, whole, amount_at}
 use Rattle.journal.specs.Refusals.{unsettled}
 use Rattle.journal.specs.Orders.{try_each, settled_order, decide}
 use Rattle.journal.proofs.OrdersLaws.{tried-passed, tried-refused}
-use Rattle.arrays.specs.Recent.{end_code}
+use Rattle.fields.proofs.Fields.{same_bits}
+use Rattle.arrays.specs.declared.end.End.{End}
+use Rattle.arrays.specs.declared.end.End.TheVariants.{Open, Committed, Aborted}
+use Rattle.arrays.specs.Ends.{code_of, codes}
 use Rattle.arrays.specs.Arrays.{Ready, ends_of, firsts_of, writes_of}
 use Rattle.arrays.proofs.EndCodes.{active-code}
 use Rattle.arrays.proofs.Found.{first_found, found_none}
 use Rattle.arrays.proofs.ArraysLaws.{ends-array, firsts-array}
-use Rattle.arrays.proofs.WriterLaws.{last_none, last_some}
+use Rattle.arrays.proofs.WriterLaws.{code-at, last_none, last_some}
 use Rattle.rules.proofs.AmountLaws.{standing-any}
-use Rattle.settle.specs.Active.{active_in}
 
 -- ---- rule 10
 
@@ -41,23 +43,19 @@ module _ (b : List ℕ) (n x j : ℕ) (l : List ℕ) (t : List Amount) (k : Read
   unfolding whole
   at-end = ap (history b) c
 
-  pub settled-unwritten : j ≡ 0 → true ≡ not (unsettled b t x)
+  pub settled-unwritten : j ≡ 0 → eqb j 0 ≡ not (unsettled b t x)
   unfolding unsettled
-  settled-unwritten y = rw (← at-end, latest-none (write_to x) (history b n) (last_none b n x j l k d e q y))
+  settled-unwritten y = rw (y, ← at-end, latest-none (write_to x) (history b n) (last_none b n x j l k d e q y))
 
-  -- the standing amount s compared with the table's, each read back from its bits
-  pub settled-written : (s : Amount) (p : Bool) → (j ≡ 0 → ⊥) → s ≡ standing (pos 0) (history b n) x → SFits w32 s → SFits w32 (get_or t x (pos 0))
-      → p ≡ same_amount (to_z w32 (of_z w32 s)) (to_z w32 (of_z w32 (get_or t x (pos 0)))) → p ≡ not (unsettled b t x)
+  -- the standing amount s compared with the table's
+  pub settled-written : (s : Amount) (ends : List End) → (j ≡ 0 → ⊥) → s ≡ standing (pos 0) (history b n) x → SFits w32 s → SFits w32 (get_or t x (pos 0)) → codes ends ≡ ends_of (history b n)
+      → eqb (of_z w32 s) (of_z w32 (get_or t x (pos 0))) ≡ not (unsettled b t x)
   unfolding unsettled
-  settled-written s p y a fs ft f =
+  settled-written s ends y a fs ft g =
       let o = last_some b n x j l k d e q y in
       let w = any-latest (write_to x) (write_to x) (history b n) o (latest-passes (write_to x) (history b n) o) in
-      let st = standing-any b n x l (amount_at t x) k d e (λ z. y (q ∙ z)) in
-      f ∙ rw (to_z-of_z w32 s fs, to_z-of_z w32 (get_or t x (pos 0)) ft, ← at-end, w, st, a) (twice (same_amount (standing (pos 0) (history b n) x) (get_or t x (pos 0))))
-    where
-      twice : (u : Bool) → u ≡ not (not u)
-      twice true = refl
-      twice false = refl
+      let st = standing-any b n x l ends (amount_at t x) k d e (λ z. y (q ∙ z)) g in
+      same_bits s (get_or t x (pos 0)) fs ft ∙ rw (← at-end, w, st, a) (sym (not-not (same_amount (standing (pos 0) (history b n) x) (get_or t x (pos 0)))))
 
 -- the loop over the items: p tests item x
 module _ (b : List ℕ) (t : List Amount) where
@@ -74,15 +72,6 @@ module _ (b : List ℕ) (t : List Amount) where
 
 -- ---- active transactions
 
-module _ (ends firsts : List ℕ) (s first : ℕ) (q : first ≡ get_or firsts s 0) where
-  pub active-in : (end : ℕ) → end ≡ get_or ends s 0 → (first ≡ 0 → ⊥) → eqb end 0 ≡ active_in ends firsts s
-  unfolding active_in
-  active-in end e h = rw (← q, ← e, ne_eqb first 0 h)
-
-  pub active-none : first ≡ 0 → false ≡ active_in ends firsts s
-  unfolding active_in
-  active-none h = rw (← q, h)
-
 first_any : (f : Op → Bool) (b : List ℕ) (n : ℕ) → any f (history b n) ≡ not (eqb (tag_in (first f (history b n))) 0)
 first_any f b n =
     by_cases (any f (history b n))
@@ -93,18 +82,19 @@ first_any f b n =
     none-some : (w : Op) → none ≡ some w → ⊥
     none-some w h = let z : ◌≡◌ {A = ℕ} 0 1 = cc in omega arith
 
-pub active-at : (b : List ℕ) (n : ℕ) (ends firsts : List ℕ) → ends ≡ ends_of (history b n) → firsts ≡ firsts_of (history b n) → (s : ℕ) → s < 1025
-    → active_in ends firsts s ≡ active (history b n) s
-unfolding active_in
-active-at b n ends firsts e f s h =
-    rw (e, f, (ends-array (history b n)).at s 0 h, (firsts-array (history b n)).at s 0 h)
-    (ap (λ a. a && eqb (end_code (history b n) s) 0) (sym (first_any (of_tx s) b n)) ∙ ap (λ a. any (of_tx s) (history b n) && a) (sym (active-code (history b n) s)))
+module _ (b : List ℕ) (n s : ℕ) (ends : List End) (firsts : List ℕ) (e : codes ends ≡ ends_of (history b n)) (f : firsts ≡ firsts_of (history b n)) (h : s < 1025) where
+  begun-is : not (eqb (get_or firsts s 0) 0) ≡ any (of_tx s) (history b n)
+  begun-is = rw (f, (firsts-array (history b n)).at s 0 h) (sym (first_any (of_tx s) b n))
 
-pub active-number : (b : List ℕ) (n m : ℕ) (ends firsts : List ℕ) → n ≡ count b → ends ≡ ends_of (history b n) → firsts ≡ firsts_of (history b n) → m ≡ count_if (active_in ends firsts) 1 1024
-    → m ≡ count_if (active (whole b)) 1 1024
-unfolding whole
-active-number b n m ends firsts c e f q =
-    q ∙ rw (← c) (count_if-ext (active_in ends firsts) (active (history b n)) 1 1 1024 (λ k h. active-at b n ends firsts e f (1 + k) (omega arith)))
+  open-is : eqb (code_of (get_or ends s Open)) 0 ≡ not (ended (history b n) s)
+  open-is = ap (λ c. eqb c 0) (sym (code-at ends s)) ∙ rw (e, (ends-array (history b n)).at s 0 h) (sym (active-code (history b n) s))
+
+  pub active-open : get_or ends s Open ≡ Open → not (eqb (get_or firsts s 0) 0) ≡ active (history b n) s
+  active-open z = rw (← begun-is, ← open-is, z) (sym (and-true (not (eqb (get_or firsts s 0) 0))))
+
+  pub active-ended : (get_or ends s Open ≡ Committed) ⊎ (get_or ends s Open ≡ Aborted) → false ≡ active (history b n) s
+  active-ended (inl z) = rw (← begun-is, ← open-is, z) (sym (and-false (not (eqb (get_or firsts s 0) 0))))
+  active-ended (inr z) = rw (← begun-is, ← open-is, z) (sym (and-false (not (eqb (get_or firsts s 0) 0))))
 
 module _ (f : ℕ → Bool) (s k : ℕ) (h : 1 ≤ s) (q : k ≡ count_if f 1 (s - 1)) where
   one_more : count_if f 1 (s + 1 - 1) ≡ cond (f s) (suc k) k

@@ -1,3 +1,5 @@
 pub mod Puts
+pub mod Pages
 pub mod Decimal
+pub mod Parts
 pub mod Lines

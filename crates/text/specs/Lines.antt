@@ -1,47 +1,38 @@
 -- The lines of the report, to the byte: each ends in one newline.
 -- Document 01, "The program's day". Assumes nothing.
 use mathlib.Core.List.{List, [], ◌∷◌, flatten}
-use Rattle.std.specs.Prelude.{ℕ, ℤ}
+use Rattle.std.specs.Prelude.{ℕ, ℤ, codes}
 use Rattle.text.specs.Decimal.{decimal, decimal_z}
 use Rattle.text.specs.Puts.{labelled}
 
 -- ---- the words, with the spaces beside them
 
--- "JOURNAL "
 abbrev journal_word : List ℕ
-journal_word = 74 ∷ 79 ∷ 85 ∷ 82 ∷ 78 ∷ 65 ∷ 76 ∷ 32 ∷ []
+journal_word = codes "JOURNAL "
 
--- " COPY "
 abbrev copy_word : List ℕ
-copy_word = 32 ∷ 67 ∷ 79 ∷ 80 ∷ 89 ∷ 32 ∷ []
+copy_word = codes " COPY "
 
--- "BACK "
 abbrev back_word : List ℕ
-back_word = 66 ∷ 65 ∷ 67 ∷ 75 ∷ 32 ∷ []
+back_word = codes "BACK "
 
--- "ITEM "
 abbrev item_word : List ℕ
-item_word = 73 ∷ 84 ∷ 69 ∷ 77 ∷ 32 ∷ []
+item_word = codes "ITEM "
 
--- "SUM "
 abbrev sum_word : List ℕ
-sum_word = 83 ∷ 85 ∷ 77 ∷ 32 ∷ []
+sum_word = codes "SUM "
 
--- "END "
 abbrev end_word : List ℕ
-end_word = 69 ∷ 78 ∷ 68 ∷ 32 ∷ []
+end_word = codes "END "
 
--- "REFUSED "
 abbrev refused_word : List ℕ
-refused_word = 82 ∷ 69 ∷ 70 ∷ 85 ∷ 83 ∷ 69 ∷ 68 ∷ 32 ∷ []
+refused_word = codes "REFUSED "
 
--- " "
 abbrev space : List ℕ
-space = 32 ∷ []
+space = codes " "
 
--- "\n"
 abbrev pub newline : List ℕ
-newline = 10 ∷ []
+newline = codes "\n"
 
 -- ---- the lines
 

@@ -4,16 +4,17 @@ use mathlib.Core.Path.{◌≡◌, refl, sym, ◌∙◌, ap}
 use mathlib.Core.Bool.{Bool, false, not, ◌&&◌, and-false}
 use mathlib.Core.List.{List, [], ◌∷◌}
 use mathlib.Core.Option.{Option}
-use Prim.Native.Nat.{ℕ, zero, suc, ◌+◌, ◌≤◌, ◌<◌}
+use Prim.Native.Nat.{ℕ, zero, suc, ◌≤◌, ◌<◌}
 use native.Mathlib.Omega.{arith}
 use lib.Dec.{eqb}
-use lib.ListN.{length, get_or, set, replicate}
-use borrow.Author.Tests.{eq-eqb, ne_eqb}
+use lib.ListN.{replicate}
+use borrow.Author.Tests.{eq-eqb}
 use Rattle.lists.specs.Search.{member}
 use Rattle.lists.specs.Tables.{stepped}
 use Rattle.lists.proofs.BoolLaws.{by_cases}
-use Rattle.lists.proofs.TablesLaws.{ByIndex, by_index, by-index-all, by-index-same, by-index-set, stepped_start, stepped-suc, stepped-turn}
+use Rattle.lists.proofs.TablesLaws.{ByIndex, by_index, by-index-all, by-index-same, by-index-set, stepped_start, stepped-suc}
 use Rattle.format.specs.declared.Record.{Record}
+use Rattle.format.specs.declared.TransactionId.{TransactionId}
 use Rattle.format.specs.Layout.{record_at}
 use Rattle.model.specs.History.{Op, History, read, write, commit, abort, other}
 use Rattle.model.specs.Undo.{is_source, source_by}
@@ -26,67 +27,32 @@ use Rattle.arrays.specs.Arrays.{Ready}
 use Rattle.arrays.proofs.Found.{Found, nothing, at, latest-found, passed-right, passed-range}
 use Rattle.arrays.proofs.ArraysLaws.{item-read, by-access}
 use Rattle.trace.specs.Codes.{coded, flags_of}
-use Rattle.trace.specs.Trace.{writer_in, source, sources_of, traced, flags_read, sources_write, flags_after, sources_after, trace_step}
-use Rattle.trace.proofs.CodesLaws.{flags-array, flags-more, flag-member}
-
--- ---- one read, one write
-
-module _ (sources flags : List ℕ) (s x f : ℕ) (a : f ≡ get_or sources x 0) where
-  pub read-opening : f ≡ 0 → flags ≡ flags_read sources s x flags
-  unfolding flags_read coded
-  read-opening e = rw (← a, e)
-
-  module _ (v : ℕ) (b : v ≡ get_or flags f 0) where
-    pub read-flagged : (l : List ℕ) → (f ≡ 0 → ⊥) → v ≡ 1 → l ≡ set flags s 1 → l ≡ flags_read sources s x flags
-    unfolding flags_read coded
-    read-flagged l h e q = q ∙ rw (← a, ← b, ne_eqb f 0 h, e)
-
-    pub read-clean : (f ≡ 0 → ⊥) → (v ≡ 1 → ⊥) → flags ≡ flags_read sources s x flags
-    unfolding flags_read coded
-    read-clean h e = rw (← a, ← b, ne_eqb f 0 h, ne_eqb v 1 e)
-
-module _ (ends sources : List ℕ) (s x v : ℕ) (a : v ≡ get_or ends s 0) where
-  pub write-is_source : (l : List ℕ) → v ≡ 1 → l ≡ set sources x s → l ≡ sources_write ends s x sources
-  unfolding sources_write coded
-  write-is_source l e q = q ∙ rw (← a, e)
-
-  pub write-idle : (v ≡ 1 → ⊥) → sources ≡ sources_write ends s x sources
-  unfolding sources_write coded
-  write-idle e = rw (← a, ne_eqb v 1 e)
+use Rattle.trace.specs.Trace.{nobody, writer_in, source, source_id, sources_of, traced, flags_read, sources_write, flags_after, sources_after, trace_step}
+use Rattle.trace.proofs.CodesLaws.{flags-array, flags-more}
 
 -- ---- one record, by its kind
 
-module _ (i : ℕ) (r q : Record) (h : r ≡ q) (ends sources flags : List ℕ) where
-  pub flags-read : (l : List ℕ) → r.kind ≡ 1 → l ≡ flags_read sources (tx_in r) r.item.0 flags → l ≡ flags_after (op_of i q) sources flags
-  unfolding flags_after
-  flags-read l k e = e ∙ rw (← h, op_of-read i r k)
+-- sources and flags, one step on
+abbrev pub Step : (i : ℕ) → Record → (ends : List ℕ) → List TransactionId → List Bool → List TransactionId × List Bool → Type 0
+Step i r ends sources flags t = t ≡ (sources_after (op_of i r) ends sources, flags_after (op_of i r) sources flags)
 
-  pub sources-read : r.kind ≡ 1 → sources ≡ sources_after (op_of i q) ends sources
-  unfolding sources_after
-  sources-read k = rw (← h, op_of-read i r k)
+module _ (i : ℕ) (r : Record) (ends : List ℕ) (sources : List TransactionId) (flags : List Bool) where
+  pub step-read : r.kind ≡ 1 → Step i r ends sources flags (sources, flags_read sources (tx_in r) r.item.0 flags)
+  unfolding flags_after sources_after
+  step-read k = rw (op_of-read i r k)
 
-  pub flags-write : r.kind ≡ 2 → flags ≡ flags_after (op_of i q) sources flags
-  unfolding flags_after
-  flags-write k = rw (← h, op_of-write i r k)
+  pub step-write : r.kind ≡ 2 → Step i r ends sources flags (sources_write ends (tx_in r) r.item.0 sources, flags)
+  unfolding flags_after sources_after
+  step-write k = rw (op_of-write i r k, is_source-write i (tx_in r) r.item.0 r.before r.after)
 
-  pub sources-write : (l : List ℕ) → r.kind ≡ 2 → l ≡ sources_write ends (tx_in r) r.item.0 sources → l ≡ sources_after (op_of i q) ends sources
-  unfolding sources_after
-  sources-write l k e = e ∙ rw (← h, op_of-write i r k, is_source-write i (tx_in r) r.item.0 r.before r.after)
-
-  pub flags-other : (r.kind ≡ 1 → ⊥) → (r.kind ≡ 2 → ⊥) → flags ≡ flags_after (op_of i q) sources flags
-  unfolding flags_after
-  flags-other k l = rw (← h) (by-access (λ o. flags ≡ flags_after o sources flags) i r (λ e. absurd (k e)) (λ e. absurd (l e)) refl refl refl)
-
-  pub sources-other : (r.kind ≡ 1 → ⊥) → (r.kind ≡ 2 → ⊥) → sources ≡ sources_after (op_of i q) ends sources
-  unfolding sources_after
-  sources-other k l = rw (← h) (by-access (λ o. sources ≡ sources_after o ends sources) i r (λ e. absurd (k e)) (λ e. absurd (l e)) refl refl refl)
+  pub step-other : (r.kind ≡ 1 → ⊥) → (r.kind ≡ 2 → ⊥) → Step i r ends sources flags (sources, flags)
+  unfolding flags_after sources_after
+  step-other k l =
+      by-access (λ o. ◌≡◌ {A = List TransactionId × List Bool} (sources, flags) (sources_after o ends sources, flags_after o sources flags)) i r (λ e. absurd (k e)) (λ e. absurd (l e)) refl refl refl
 
 -- ---- the arrays after p
 
-pub flags-count : (m l : List ℕ) → l ≡ flags_of m → 1025 ≡ length l
-flags-count m l e = rw (e, (flags-array m).size)
-
-sources-array : (c : ℕ → Bool) (p : History) → ByIndex (source c p) 1024 (sources_of c p)
+sources-array : (c : ℕ → Bool) (p : History) → ByIndex (source_id c p) 1024 (sources_of c p)
 unfolding sources_of
 sources-array c p = by_index _ 1024
 
@@ -99,9 +65,9 @@ sources-op ends p (write t s x b a) =
     by_cases (is_source (write t s x b a))
     (λ f. rw f
     (by_cases (coded 1 ends s)
-    (λ e. rw e (by-index-set x s 0 old new (rw (eq-eqb x x refl, e, f)) (λ j q. rw q)))
-    (λ e. rw e (by-index-same 0 old new (λ j. rw (e, and-false (eqb j x)))))))
-    (λ f. rw f (by-index-same 0 old new (λ j. rw (f, and-false (eqb j x && coded 1 ends s)))))
+    (λ e. rw e (by-index-set x (record { 0 = s }) nobody old new (rw (eq-eqb x x refl, e, f)) (λ j q. rw q)))
+    (λ e. rw e (by-index-same nobody old new (λ j. rw (e, and-false (eqb j x)))))))
+    (λ f. rw f (by-index-same nobody old new (λ j. rw (f, and-false (eqb j x && coded 1 ends s)))))
 sources-op ends p (commit t s) = refl
 sources-op ends p (abort t s) = refl
 sources-op ends p (other t s) = refl
@@ -115,9 +81,9 @@ Narrow c p (abort t s) = Unit {0}
 Narrow c p (other t s) = Unit {0}
 
 flags-op : (c : ℕ → Bool) (bad : List ℕ) (p : History) (r : Op) → Narrow c p r → flags_after r (sources_of c p) (flags_of (traced c bad p)) ≡ flags_of (traced c bad (r ∷ p))
-unfolding flags_after flags_read coded
+unfolding flags_after flags_read
 flags-op c bad p (read t s x) n =
-    rw ((sources-array c p).at x 0 n.0, flag-member (traced c bad p) (source c p x) n.1)
+    rw ((sources-array c p).at x nobody n.0, (flags-array (traced c bad p)).at (source c p x) false n.1)
     (by_cases (not (eqb (source c p x) 0) && member (source c p x) (traced c bad p)) (λ e. rw e (flags-more (traced c bad p) s)) (λ e. rw e))
 flags-op c bad p (write t s x b a) n = refl
 flags-op c bad p (commit t s) n = refl
@@ -141,26 +107,20 @@ module _ (b : List ℕ) (n i : ℕ) (k : Ready b n) (h : i < n) where
 
 -- ---- the pass
 
-pub trace-turn : (b ends : List ℕ) (i : ℕ) (s : List ℕ × List ℕ) (sources flags l m : List ℕ) → (sources, flags) ≡ stepped (trace_step b ends) i s
-    → l ≡ sources_after (op_of (i + 1) (record_at b (i + 1))) ends sources → m ≡ flags_after (op_of (i + 1) (record_at b (i + 1))) sources flags
-    → (l, m) ≡ stepped (trace_step b ends) (i + 1) s
-unfolding trace_step
-trace-turn b ends i s sources flags l m e p q = stepped-turn (trace_step b ends) i s (sources, flags) (l, m) e (λ k. (p k, q k))
-
 -- from no source at all and the flags of the list it is the trace
 
 trace-all : (b ends bad : List ℕ) (n i : ℕ) → Ready b n → i ≤ n
-    → stepped (trace_step b ends) i (replicate 1024 0, flags_of bad) ≡ (sources_of (coded 1 ends) (history b i), flags_of (traced (coded 1 ends) bad (history b i)))
+    → stepped (trace_step b ends) i (replicate 1024 nobody, flags_of bad) ≡ (sources_of (coded 1 ends) (history b i), flags_of (traced (coded 1 ends) bad (history b i)))
 unfolding trace_step
 trace-all b ends bad n zero k h =
-    sym (stepped_start (trace_step b ends) _) ∙ rw history-zero (ap (λ l. (l, flags_of bad)) (by-index-all 0 0 (sources-array (coded 1 ends) []) (λ j. refl)))
+    sym (stepped_start (trace_step b ends) _) ∙ rw history-zero (ap (λ l. (l, flags_of bad)) (by-index-all nobody nobody (sources-array (coded 1 ends) []) (λ j. refl)))
 trace-all b ends bad n (suc i) k h =
     let p = history b i in
     let r = op_of (suc i) (record_at b (suc i)) in
     let new = flags-op (coded 1 ends) bad p r (narrow_at b n i k (omega arith) (coded 1 ends)) in
     stepped-suc (trace_step b ends) i _ ∙ ap (trace_step b ends (suc i)) (trace-all b ends bad n i k (omega arith)) ∙ rw (history-suc b i) (λ v. (sources-op ends p r v, new v))
 
-pub trace-done : (b ends bad flags₀ sources flags : List ℕ) (n : ℕ) → Ready b n → flags₀ ≡ flags_of bad → (sources, flags) ≡ stepped (trace_step b ends) n (replicate 1024 0, flags₀)
+pub trace-done : (b ends bad : List ℕ) (flags₀ flags : List Bool) (sources : List TransactionId) (n : ℕ) → Ready b n → flags₀ ≡ flags_of bad → (sources, flags) ≡ stepped (trace_step b ends) n (replicate 1024 nobody, flags₀)
     → flags ≡ flags_of (traced (coded 1 ends) bad (history b n))
-trace-done b ends bad flags₀ sources flags n k f e =
-    ap (λ s. s.1) (e ∙ ap (λ l. stepped (trace_step b ends) n (replicate 1024 0, l)) f ∙ trace-all b ends bad n n k (omega arith))
+trace-done b ends bad flags₀ flags sources n k f e =
+    ap (λ s. s.1) (e ∙ ap (λ l. stepped (trace_step b ends) n (replicate 1024 nobody, l)) f ∙ trace-all b ends bad n n k (omega arith))

@@ -29,9 +29,10 @@ use Rattle.journal.specs.Results.{status_vector}
 use Rattle.journal.specs.Calls.{status_of, statuses}
 use Rattle.arrays.specs.Arrays.{Ready, ends_of}
 use Rattle.arrays.proofs.Found.{passing-history}
-use Rattle.trace.specs.Codes.{coded, flags_of, fate_of, fates_of}
+use Rattle.trace.specs.declared.Fate.{Fate}
+use Rattle.trace.specs.Codes.{coded, flags_of, fate_code, fate_codes, fate_of, fates_of}
 use Rattle.trace.specs.Trace.{writer_in, source, traced}
-use Rattle.trace.proofs.CodesLaws.{flag-member}
+use Rattle.trace.proofs.CodesLaws.{flags-array, map-tabulate}
 use Rattle.trace.proofs.Ends.{none-committed, coded-committed, committed-coded}
 
 -- ---- what feeds
@@ -90,18 +91,18 @@ module _ (b : List ℕ) (n : ℕ) (k : Ready b n) (ends : List ℕ) (e : ends �
       (traced-reached _ (history b n) legal (none-committed b n k 0 (λ u. omega arith)) bad (history b n) all v h)
 
   fate-status : (s : ℕ) → s < 1025
-      → fate_of (get_or ends s 0) (get_or (flags_of (traced (coded 1 ends) bad (history b n))) s 0) ≡ status_of (undone is_source bad (history b n)) (surviving is_source bad (history b n)) s
-  unfolding fate_of status_of coded
+      → fate_code (fate_of (get_or ends s 0) (get_or (flags_of (traced (coded 1 ends) bad (history b n))) s false)) ≡ status_of (undone is_source bad (history b n)) (surviving is_source bad (history b n)) s
+  unfolding status_of coded
   fate-status s h =
-      rw (coded-committed b n k ends e s, flag-member (traced (coded 1 ends) bad (history b n)) s h)
+      rw (coded-committed b n k ends e s, (flags-array (traced (coded 1 ends) bad (history b n))).at s false h)
       (by_cases (committed (history b n) s)
       (λ q. rw (q, reached-same s q) (by_cases (member s (reached is_source bad (history b n))) (λ w. rw w) (λ w. rw w)))
       (λ q. rw q))
 
-  pub fates-statuses : (flags fates : List ℕ) → flags ≡ flags_of (traced (coded 1 ends) bad (history b n)) → fates ≡ fates_of ends flags → fates ≡ statuses bad (history b n)
+  pub fates-statuses : (flags : List Bool) (fates : List Fate) → flags ≡ flags_of (traced (coded 1 ends) bad (history b n)) → fates ≡ fates_of ends flags → fate_codes fates ≡ statuses bad (history b n)
   unfolding fates_of statuses status_vector
   fates-statuses flags fates f g =
-      g ∙ rw f (tabulate-ext _ _ 0 0 1025 (λ s h. let z : 0 + s ≡ s = omega arith in rw z (fate-status s h)))
+      ap fate_codes g ∙ rw f (map-tabulate fate_code _ 0 1025 ∙ tabulate-ext _ _ 0 0 1025 (λ s h. let z : 0 + s ≡ s = omega arith in rw z (fate-status s h)))
 
 -- ---- what the codes say
 

@@ -1,23 +1,31 @@
--- Working arrays: a code for each transaction, and lists written from the front.
+-- Working arrays: a flag for each transaction, and its fate.
 -- Assumes nothing.
-use Rattle.std.specs.Prelude.{cond, List, ℕ, eqb, ltb, length, get_or}
+use Rattle.std.specs.Prelude.{Bool, false, cond, List, ℕ, eqb, get_or, map}
 use Rattle.lists.specs.Search.{member}
 use Rattle.lists.specs.Tables.{tabulate}
 unfoldable pub use Rattle.lists.specs.Tables.{coded}
 use Rattle.format.specs.Limits.{transaction_slots}
+use Rattle.trace.specs.declared.Fate.{Fate}
+use Rattle.trace.specs.declared.Fate.TheVariants.{Neither, Surviving, Undone}
 
--- l with f 0, f 1, .. in place of its first i elements
-unfoldable pub partly : (ℕ → ℕ) → ℕ → List ℕ → List ℕ
-partly f i l = tabulate (λ k. cond (ltb k i) (f k) (get_or l k 0)) 0 (length l)
+-- a flag for each transaction of a list
+unfoldable pub flags_of : List ℕ → List Bool
+flags_of m = tabulate (λ s. member s m) 0 transaction_slots
 
--- 1 for each transaction of a list, 0 for the others
-unfoldable pub flags_of : List ℕ → List ℕ
-flags_of m = tabulate (λ s. cond (member s m) 1 0) 0 transaction_slots
+-- the status of a fate: 1 surviving, 2 undone, 0 neither
+abbrev pub fate_code : Fate → ℕ
+fate_code Neither = 0
+fate_code Surviving = 1
+fate_code Undone = 2
 
--- its fate, from its end and its flag: 1 surviving (committed, no flag), 2 undone (committed, a flag), 0 neither
-unfoldable pub fate_of : ℕ → ℕ → ℕ
-fate_of end flag = cond (eqb end 1) (cond (eqb flag 1) 2 1) 0
+-- the statuses of all transactions
+abbrev pub fate_codes : List Fate → List ℕ
+fate_codes fates = map fate_code fates
+
+-- its fate, from its end and its flag: surviving (committed, no flag), undone (committed, a flag), neither
+abbrev pub fate_of : ℕ → Bool → Fate
+fate_of end flag = cond (eqb end 1) (cond flag Undone Surviving) Neither
 
 -- the fates of all transactions
-unfoldable pub fates_of : List ℕ → List ℕ → List ℕ
-fates_of ends flags = tabulate (λ s. fate_of (get_or ends s 0) (get_or flags s 0)) 0 transaction_slots
+unfoldable pub fates_of : List ℕ → List Bool → List Fate
+fates_of ends flags = tabulate (λ s. fate_of (get_or ends s 0) (get_or flags s false)) 0 transaction_slots

@@ -1,10 +1,11 @@
 -- The undo set by one forward pass: the transaction whose committed write feeds each item, and a flag for each transaction reached.
 -- The pass goes on from any sources and any flags.
 -- Assumes nothing.
-use Rattle.std.specs.Prelude.{Bool, cond, not, ◌&&◌, List, [], ◌∷◌, ℕ, eqb, get_or, set}
+use Rattle.std.specs.Prelude.{Bool, true, false, cond, not, ◌&&◌, List, [], ◌∷◌, ℕ, eqb, get_or, set}
 use Rattle.std.proofs.Math.Option.{Option, none, some}
 use Rattle.lists.specs.Search.{latest, member}
 use Rattle.lists.specs.Tables.{tabulate}
+use Rattle.format.specs.declared.TransactionId.{TransactionId}
 use Rattle.format.specs.Layout.{record_at}
 use Rattle.format.specs.Limits.{max_items}
 use Rattle.model.specs.History.{Op, History, read, write, commit, abort, other, tx_of}
@@ -21,9 +22,12 @@ writer_in (some w) = tx_of w
 abbrev pub source : (ℕ → Bool) → History → ℕ → ℕ
 source c p x = writer_in (latest (source_by is_source c x) p)
 
+abbrev pub source_id : (ℕ → Bool) → History → ℕ → TransactionId
+source_id c p x = record { 0 = source c p x }
+
 -- by item, 0 to 1,023
-unfoldable pub sources_of : (ℕ → Bool) → History → List ℕ
-sources_of c p = tabulate (source c p) 0 max_items
+unfoldable pub sources_of : (ℕ → Bool) → History → List TransactionId
+sources_of c p = tabulate (source_id c p) 0 max_items
 
 -- the transactions reached from a list, where c has those that commit
 abbrev pub traced : (ℕ → Bool) → List ℕ → History → List ℕ
@@ -37,22 +41,28 @@ traced c bad (other t s ∷ p) = traced c bad p
 
 -- ---- what one operation does to the arrays
 
+-- no transaction
+abbrev pub nobody : TransactionId
+nobody = record { 0 = 0 }
+
 -- a read of item x by s
-unfoldable pub flags_read : List ℕ → ℕ → ℕ → List ℕ → List ℕ
-flags_read sources s x flags = cond (not (eqb (get_or sources x 0) 0) && coded 1 flags (get_or sources x 0)) (set flags s 1) flags
+unfoldable pub flags_read : List TransactionId → ℕ → ℕ → List Bool → List Bool
+flags_read sources s x flags =
+    let f : ℕ = (get_or sources x nobody).0 in
+    cond (not (eqb f 0) && get_or flags f false) (set flags s true) flags
 
 -- a write of item x by s that may feed
-unfoldable pub sources_write : List ℕ → ℕ → ℕ → List ℕ → List ℕ
-sources_write ends s x sources = cond (coded 1 ends s) (set sources x s) sources
+unfoldable pub sources_write : List ℕ → ℕ → ℕ → List TransactionId → List TransactionId
+sources_write ends s x sources = cond (coded 1 ends s) (set sources x (record { 0 = s })) sources
 
-unfoldable pub flags_after : Op → List ℕ → List ℕ → List ℕ
+unfoldable pub flags_after : Op → List TransactionId → List Bool → List Bool
 flags_after (read t s x) sources flags = flags_read sources s x flags
 flags_after (write t s x b a) sources flags = flags
 flags_after (commit t s) sources flags = flags
 flags_after (abort t s) sources flags = flags
 flags_after (other t s) sources flags = flags
 
-unfoldable pub sources_after : Op → List ℕ → List ℕ → List ℕ
+unfoldable pub sources_after : Op → List ℕ → List TransactionId → List TransactionId
 sources_after (read t s x) ends sources = sources
 sources_after (write t s x b a) ends sources = cond (is_source (write t s x b a)) (sources_write ends s x sources) sources
 sources_after (commit t s) ends sources = sources
@@ -60,5 +70,5 @@ sources_after (abort t s) ends sources = sources
 sources_after (other t s) ends sources = sources
 
 -- what record i of a journal does to sources and flags
-unfoldable pub trace_step : List ℕ → List ℕ → ℕ → List ℕ × List ℕ → List ℕ × List ℕ
+unfoldable pub trace_step : List ℕ → List ℕ → ℕ → List TransactionId × List Bool → List TransactionId × List Bool
 trace_step b ends i s = let r : Op = op_of i (record_at b i) in (sources_after r ends s.0, flags_after r s.0 s.1)

@@ -1,160 +1,161 @@
 // The undo set: each transaction's fate, from one pass over a journal whose records passed.
 #![tactic(auto)]
 
-ghost use Rattle.std.specs.Prelude.{◌≡◌, ◌+◌, ◌≤◌, ◌<◌, length, get_or, set};
+ghost use Rattle.std.specs.Prelude.{◌≡◌, ◌+◌, ◌≤◌, length};
 ghost use Rattle.lists.specs.Tables.{stepped};
 ghost use Rattle.format.specs.Layout.{record_at};
 ghost use Rattle.format.specs.Limits.{journal_bytes, max_records};
-ghost use Rattle.journal.specs.Journal.{op_of, history};
+ghost use Rattle.journal.specs.Journal.{history};
 ghost use Rattle.journal.specs.Calls.{statuses};
-ghost use Rattle.arrays.specs.Arrays.{Ready, ends_of};
-ghost use Rattle.trace.specs.Codes.{coded, flags_of, fate_of, fates_of};
-ghost use Rattle.trace.specs.Trace.{traced, flags_read, sources_write, flags_after, sources_after, trace_step};
+ghost use Rattle.arrays.specs.Arrays.{Ready, IsEnds};
+ghost use Rattle.arrays.specs.Ends.{code_of, codes};
+ghost use Rattle.trace.specs.Codes.{coded, flags_of, fate_codes, fate_of, fates_of};
+ghost use Rattle.trace.specs.Trace.{flags_read, sources_write, trace_step};
 
-use arrays::code_of;
-use format::{ITEM_SLOTS, Key, Lsn, TRANSACTION_SLOTS, TRANSACTIONS_END, TransactionId, record_at};
-use lists::set_code;
+use arrays::End;
+use format::{
+    ITEM_SLOTS, Kind, Lsn, Record, TRANSACTION_SLOTS, TRANSACTIONS_END, TransactionId, record_at,
+};
+use lists::{at, put};
 
-// The code of transaction s; behind the end of the array nothing.
-fn set_code_of(codes: &mut [u8], s: TransactionId, v: u8)
-    ensures { codes.new ≡ set codes.old s.0 v }
-{
-    set_code(codes, s.0 as usize, v);
+// What becomes of a transaction. One that committed survives or is undone.
+#[derive(Clone, Copy, Debug, PartialEq, Eq)]
+pub enum Fate {
+    Neither = 0,
+    Surviving = 1,
+    Undone = 2,
 }
 
+// The first `count` records of a journal, all of which are in its bytes.
+#[derive(Clone, Copy)]
+pub struct Records<'j> {
+    pub journal: &'j [u8],
+    pub count: u32,
+    pub ghost long: { journal_bytes count ≤ length journal.now },
+    pub ghost few: { count ≤ max_records },
+}
+
+impl Records<'_> {
+    pub fn at(&self, i: Lsn) -> Record
+        requires { i.0 ≤ self.now.count }
+        ensures { result ≡ record_at self.now.journal.now i.0 }
+    {
+        record_at(self.journal, i)
+    }
+}
+
+// No transaction, as a source: document 01 numbers transactions from 1. In an `Option`, `Some(0)` would be a second none.
+const NOBODY: TransactionId = TransactionId(0);
+
 // A flag for each listed transaction.
-fn listed(bad: &[u16]) -> [u8; TRANSACTION_SLOTS]
+fn listed(bad: &[u16]) -> [bool; TRANSACTION_SLOTS]
     ensures { result ≡ flags_of bad.now }
 {
-    let mut flags = [0u8; TRANSACTION_SLOTS];
-    let mut k = bad.len();
-    while k != 0 {
-        k -= 1;
-        let s = TransactionId(bad[k]);
-        set_code_of(&mut flags, s, 1);
+    let mut flags = [false; TRANSACTION_SLOTS];
+    for s in bad {
+        put(&mut flags, TransactionId(*s), true);
     }
     flags
 }
 
-fn source_at(sources: &[u16], x: Key) -> TransactionId
-    ensures { result.0 ≡ get_or sources.now x.0 0 }
+// A read, fed by a transaction with a flag.
+#[tactic(auto, unfolding(crate::specs::Trace::flags_read))]
+fn trace_read(sources: &[TransactionId], r: Record, flags: &mut [bool])
+    ensures { flags.new ≡ flags_read sources.now r.transaction.0 r.item.0 flags.old }
 {
-    let at = x.0 as usize;
-    if at < sources.len() {
-        TransactionId(sources[at])
-    } else {
-        TransactionId(0)
+    let source = at(sources, r.item, NOBODY);
+    if source != NOBODY && at(flags, source, false) {
+        put(flags, r.transaction, true);
     }
 }
 
-fn set_source(sources: &mut [u16], x: Key, s: TransactionId)
-    ensures { sources.new ≡ set sources.old x.0 s.0 }
+// A write, which feeds later reads if its transaction commits.
+fn trace_write(ends: &[End], r: Record, sources: &mut [TransactionId])
+    ensures { sources.new ≡ sources_write (codes ends.now) r.transaction.0 r.item.0 sources.old }
 {
-    let at = x.0 as usize;
-    if at < sources.len() {
-        sources[at] = s.0;
+    if at(ends, r.transaction, End::Open) == End::Committed {
+        put(sources, r.item, r.transaction);
     }
 }
 
-// A read of item x by s, fed by a transaction with a flag.
-fn trace_read(sources: &[u16], s: TransactionId, x: Key, flags: &mut [u8])
-    ensures { flags.new ≡ flags_read sources.now s.0 x.0 flags.old }
+// Record i in the trace.
+fn trace_record(
+    records: &Records,
+    i: Lsn,
+    ends: &[End],
+    sources: &mut [TransactionId],
+    flags: &mut [bool],
+)
+    requires { i.0 ≤ records.now.count }
+    ensures { (sources.new, flags.new)
+        ≡ trace_step records.now.journal.now (codes ends.now) i.0 (sources.old, flags.old) }
 {
-    let f = source_at(sources, x);
-    if f.0 != 0 {
-        let flag = code_of(flags, f);
-        if flag == 1 {
-            set_code_of(flags, s, 1);
-        }
-    }
-}
-
-// A write of item x by s, which feeds later reads if s commits.
-fn trace_write(ends: &[u8], s: TransactionId, x: Key, sources: &mut [u16])
-    ensures { sources.new ≡ sources_write ends.now s.0 x.0 sources.old }
-{
-    let end = code_of(ends, s);
-    if end == 1 {
-        set_source(sources, x, s);
-    }
-}
-
-// Record n + 1 in the trace.
-fn trace_record(journal: &[u8], n: u32, ends: &[u8], sources: &mut [u16], flags: &mut [u8])
-    requires { (journal_bytes (n + 1) ≤ length journal.now) × (n < max_records) }
-    ensures { (sources.new
-        ≡ sources_after (op_of (n + 1) (record_at journal.now (n + 1))) ends.now sources.old)
-        × (flags.new
-        ≡ flags_after (op_of (n + 1) (record_at journal.now (n + 1))) sources.old flags.old) }
-{
-    let r = record_at(journal, Lsn(n + 1));
-    let kind = r.kind;
-    match kind {
-        1 => {
-            trace_read(sources, r.transaction, r.item, flags);
-        }
-        2 => {
-            trace_write(ends, r.transaction, r.item, sources);
-        }
+    let r = records.at(i);
+    match Kind::try_from(r.kind) {
+        Ok(Kind::Read) => trace_read(sources, r, flags),
+        Ok(Kind::Write) => trace_write(ends, r, sources),
         _ => {}
     }
 }
 
-// Records 1 to n in the trace, from any sources and any flags.
-pub fn trace_records(journal: &[u8], n: u32, ends: &[u8], sources: &mut [u16], flags: &mut [u8])
-    requires { (journal_bytes n ≤ length journal.now) × (n ≤ max_records) }
+// All the records in the trace, from any sources and any flags.
+pub fn trace_records(
+    records: &Records,
+    ends: &[End],
+    sources: &mut [TransactionId],
+    flags: &mut [bool],
+)
     ensures { (sources.new, flags.new)
-        ≡ stepped (trace_step journal.now ends.now) n (sources.old, flags.old) }
+        ≡ stepped (trace_step records.now.journal.now (codes ends.now)) records.now.count
+        (sources.old, flags.old) }
 {
-    let mut i = 0;
-    while i < n {
-        trace_record(journal, i, ends, sources, flags);
-        i += 1;
+    for i in 0..records.count {
+        trace_record(records, Lsn(i + 1), ends, sources, flags);
     }
 }
 
-// A flag for each transaction reached from the list.
-fn trace(journal: &[u8], n: u32, ends: &[u8], bad: &[u16]) -> [u8; TRANSACTION_SLOTS]
-    requires { Ready journal.now n }
-    ensures { result ≡ flags_of (traced (coded 1 ends.now) bad.now (history journal.now n)) }
+// The fate of a transaction, by its end and its flag.
+fn fate_for(end: End, flag: bool) -> Fate
+    ensures { result ≡ fate_of (code_of end) flag }
 {
-    let mut flags = listed(bad);
-    let mut sources = [0u16; ITEM_SLOTS];
-    trace_records(journal, n, ends, &mut sources, &mut flags);
-    flags
-}
-
-// The fate of a transaction: 1 surviving, 2 undone, 0 neither.
-fn fate(end: u8, flag: u8) -> u8
-    ensures { result ≡ fate_of end flag }
-{
-    if end == 1 {
-        if flag == 1 { 2 } else { 1 }
-    } else {
-        0
+    match (end, flag) {
+        (End::Committed, true) => Fate::Undone,
+        (End::Committed, false) => Fate::Surviving,
+        (End::Open | End::Aborted, _) => Fate::Neither,
     }
 }
 
-fn fates(ends: &[u8], flags: &[u8]) -> [u8; TRANSACTION_SLOTS]
-    ensures { result ≡ fates_of ends.now flags.now }
+fn fates(ends: &[End], flags: &[bool]) -> [Fate; TRANSACTION_SLOTS]
+    ensures { result ≡ fates_of (codes ends.now) flags.now }
 {
-    let mut all = [0u8; TRANSACTION_SLOTS];
-    let mut s: u16 = 0;
-    while s < TRANSACTIONS_END {
-        let end = code_of(ends, TransactionId(s));
-        let flag = code_of(flags, TransactionId(s));
-        let at = s as usize;
-        all[at] = fate(end, flag);
-        s += 1;
+    let mut all = [Fate::Neither; TRANSACTION_SLOTS];
+    for i in 0..TRANSACTIONS_END {
+        let s = TransactionId(i);
+        put(
+            &mut all,
+            s,
+            fate_for(at(ends, s, End::Open), at(flags, s, false)),
+        );
     }
     all
 }
 
-// The fate of each transaction: 1 surviving, 2 undone, 0 neither; `ends` has the end of each.
-pub fn classify(journal: &[u8], n: u32, ends: &[u8], bad: &[u16]) -> [u8; TRANSACTION_SLOTS]
-    requires { Ready journal.now n × (ends.now ≡ ends_of (history journal.now n)) }
-    ensures { result ≡ statuses bad.now (history journal.now n) }
+// Transaction s survives; one behind the end of the list does not.
+pub fn survives(fates: &[Fate], s: TransactionId) -> bool
+    ensures { result ≡ coded 1 (fate_codes fates.now) s.0 }
 {
-    let flags = trace(journal, n, ends, bad);
+    at(fates, s, Fate::Neither) == Fate::Surviving
+}
+
+// The fate of each transaction; `ends` has the end of each.
+pub fn classify(records: &Records, ends: &[End], bad: &[u16]) -> [Fate; TRANSACTION_SLOTS]
+    requires ready { Ready records.now.journal.now records.now.count }
+    requires ended { IsEnds records.now.journal.now records.now.count (codes ends.now) }
+    ensures { fate_codes result
+        ≡ statuses bad.now (history records.now.journal.now records.now.count) }
+{
+    let mut flags = listed(bad);
+    let mut sources = [NOBODY; ITEM_SLOTS];
+    trace_records(records, ends, &mut sources, &mut flags);
     fates(ends, &flags)
 }

@@ -8,35 +8,46 @@ use native.Mathlib.Omega.{arith}
 use lib.Dec.{ltb}
 use lib.ListN.{length, get_or}
 use borrow.Author.Tests.{eqb-true, ltb-true, ltb-false}
+use Rattle.std.proofs.lemmas.Bool.{not-false}
 use Rattle.lists.specs.Search.{or_else}
 use Rattle.lists.specs.Tables.{coded}
-use Rattle.lists.proofs.BoolLaws.{by_cases, not-neither}
+use Rattle.lists.proofs.BoolLaws.{by_cases}
 use Rattle.lists.proofs.TablesLaws.{none-behind}
 use Rattle.model.specs.History.{Amount}
 use Rattle.model.specs.Undo.{is_source, surviving, undone}
-use Rattle.journal.specs.Inputs.{Inputs}
+use Rattle.journal.specs.Inputs.{Inputs, inputs_of}
 use Rattle.journal.specs.declared.Reason.{Reason}
 use Rattle.journal.specs.Reasons.{number_of, place_of}
-use Rattle.journal.specs.Journal.{count, history, whole}
+use Rattle.journal.specs.Journal.{count, items, history, whole}
 use Rattle.journal.specs.Refusals.{still_active, unknown, wrong_status}
 use Rattle.journal.specs.Orders.{Refusal, in_turn, active_order, known_order, status_order, capacity_order, check_order, undo_order, decide}
 use Rattle.journal.specs.Copy.{unchanged, copy_surviving, copy}
 use Rattle.journal.specs.Results.{Answer, refused, answered, UndoTotals, statuses, result}
 use Rattle.journal.specs.Calls as calls
+use Rattle.journal.specs.Outcomes.{refusal_of}
 use Rattle.journal.proofs.OrdersLaws.{or_else-none, or_else-assoc, decide-over, decide-turn, decide-one, decide-turns, try_each-ext}
 use Rattle.journal.proofs.Clear.{decide-clear, turns-clear, try-clear}
 use Rattle.journal.proofs.Answered.{refused-only}
-use Rattle.fields.specs.declared.Headed.{Headed}
-use Rattle.fields.specs.declared.Headed.TheVariants as headed
-use Rattle.fields.specs.Answers.{size_of, header_of}
-use Rattle.rules.specs.declared.Verdict.{Verdict}
-use Rattle.rules.specs.declared.Verdict.TheVariants as verdict
-use Rattle.rules.specs.Answers.{verdict_of, refusal_of}
+use Rattle.fields.specs.Answers.{size_of}
+use Rattle.arrays.specs.Arrays.{Ready, ends_of}
 use Rattle.trace.proofs.Ends.{coded-committed, none-committed}
 use Rattle.trace.proofs.UndoSet.{status-length, coded-surviving, coded-undone}
-use Rattle.examine.specs.Stages.{unknown_in, admit_order, examined_order, Examined}
+use Rattle.arrays.specs.declared.pass.Passed.{Passed}
+use Rattle.arrays.specs.Ends.{codes}
+use Rattle.examine.specs.Stages.{unknown_in, admit_order, examined_order}
 use Rattle.deliver.specs.Delivery.{Deliverable, delivered}
 use Rattle.undo.specs.Undoes.{Undoes}
+
+-- n records passed, of m items; the end of each transaction; 1 to 11 refuse nothing
+pub record Examined (d : Inputs) (n m : ℕ) (ends : List ℕ) : Type 0 where
+  pub ready : Ready d.journal n
+  pub counted : n ≡ count d.journal
+  pub keys : m ≡ items d.journal
+  pub ended : ends ≡ ends_of (history d.journal n)
+  pub passed : decide (examined_order d) ≡ none
+
+pub examined : (p : Passed) (t : List Amount) → decide (examined_order (inputs_of p.journal.bytes.now t)) ≡ none → Examined (inputs_of p.journal.bytes.now t) p.journal.records p.journal.items (codes p.ends)
+examined p t h = record { ready = p.ready; counted = p.journal.opened.counted; keys = p.journal.opened.keys; ended = p.ended; passed = h }
 
 module _ (d : Inputs) (bad status out : List ℕ) where
   -- a refusal writes nothing
@@ -52,13 +63,12 @@ module _ (d : Inputs) (bad status out : List ℕ) where
       ∙ ap (or_else (decide (in_turn (check_order d ∷ active_order (still_active d.journal) ∷ [])))) (simp (decide-turn, decide-over, or_else-none))
 
   -- 1 to 11
-  pub result-head : (h : Headed) (why : Reason) → header_of h ≡ answered (decide (examined_order d)) (size_of d.journal) → h ≡ headed.Refused why
-      → Undoes d bad status out (refused (number_of why) (place_of why)) d.table status out
-  result-head h why q e =
-      let y = refused-only (number_of why) (place_of why) (decide (examined_order d)) _ (sym (ap header_of e) ∙ q) in
+  pub result-head : (why : Reason) → refused (number_of why) (place_of why) ≡ answered (decide (examined_order d)) (size_of d.journal) → Undoes d bad status out (refused (number_of why) (place_of why)) d.table status out
+  result-head why q =
+      let y = refused-only (number_of why) (place_of why) (decide (examined_order d)) _ q in
       refuses (refusal_of why) (order-parts (length (copy bad d.journal)) ∙ rw y)
 
-  module _ (n m : ℕ) (ends : List ℕ) (x : Examined (examined_order d) d.journal n m ends) where
+  module _ (n m : ℕ) (ends : List ℕ) (x : Examined d n m ends) where
     known_same : known_order (unknown d.journal) bad ≡ known_order (unknown_in ends) bad
     unfolding known_order unknown_in unknown whole
     known_same = try_each-ext 12 _ _ 0 (length bad) (λ k l u. rw (coded-committed d.journal n x.ready ends x.ended (get_or bad k 0), ← x.counted))
@@ -70,13 +80,17 @@ module _ (d : Inputs) (bad status out : List ℕ) where
         (sym (rw (decide-turn (status_order status) (known_order (unknown_in ends) bad ∷ []), decide-one (known_order (unknown_in ends) bad)) (or_else-assoc (decide (status_order status)) (decide (known_order (unknown_in ends) bad)) (decide (capacity_order out z)))))
 
     -- 13 and 12
-    pub result-admit : (v : Verdict) (why : Reason) → verdict_of v ≡ decide (admit_order ends bad status) → v ≡ verdict.Refused why → Undoes d bad status out (refused (number_of why) (place_of why)) d.table status out
-    result-admit v why q e = refuses (refusal_of why) (decides (length (copy bad d.journal)) ∙ rw (← q, e))
+    pub result-admit : (why : Reason) → some (refusal_of why) ≡ decide (admit_order ends bad status) → Undoes d bad status out (refused (number_of why) (place_of why)) d.table status out
+    result-admit why q = refuses (refusal_of why) (decides (length (copy bad d.journal)) ∙ rw (← q))
 
     module _ (a : decide (admit_order ends bad status) ≡ none) where
       status-right : length status ≡ 1025
       unfolding admit_order status_order wrong_status
-      status-right = let (c13, rest) = turns-clear _ (decide-clear _ a) in eqb-true _ _ (not-neither _ (try-clear 13 _ _ c13))
+      status-right = let (c13, rest) = turns-clear _ (decide-clear _ a) in eqb-true _ _ (not-false _ (try-clear 13 _ _ c13))
+
+      -- what the delivery of the fates is given
+      pub result-given : Deliverable d.journal n m ends status
+      result-given = record { ready = x.ready; counted = x.counted; keys = x.keys; ended = x.ended; status_length = status-right }
 
       module _ (fates : List ℕ) (f : fates ≡ statuses bad (history d.journal n)) where
         surviving-is : coded 1 fates ≡ surviving is_source bad (history d.journal n)
@@ -89,19 +103,6 @@ module _ (d : Inputs) (bad status out : List ℕ) where
             (λ q. coded-undone d.journal n x.ready bad fates f s (ltb-true s 1025 q))
             (λ q. let l = ltb-false s 1025 q in
             rw (← none-behind fates s (omega (arith, status-length (history d.journal n) bad fates f)), none-committed d.journal n x.ready s (λ u. omega arith))))
-
-        -- what the delivery of the fates is given
-        pub result-given : Deliverable d.journal n m ends fates status
-        unfolding statuses
-        result-given =
-            record {
-              ready = x.ready;
-              counted = x.counted;
-              keys = x.keys;
-              ended = x.ended;
-              fated = f ∙ rw (← surviving-is, ← undone-is);
-              status_length = status-right;
-            }
 
         same : delivered d fates status out ≡ calls.undo d bad status out
         unfolding delivered calls.undo copy whole

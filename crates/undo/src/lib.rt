@@ -4,63 +4,47 @@
 ghost use Rattle.std.specs.Prelude.{◌≡◌};
 ghost use Rattle.std.proofs.Math.Option.{none};
 ghost use Rattle.journal.specs.Inputs.{inputs_of};
+ghost use Rattle.journal.specs.Outcomes.{answer_of};
 ghost use Rattle.journal.specs.Orders.{decide};
 ghost use Rattle.journal.specs.Calls as calls;
-ghost use Rattle.examine.specs.Stages.{admit_order, examined_order, Examined};
-ghost use Rattle.deliver.specs.Answers.{answer_of};
+ghost use Rattle.examine.specs.Stages.{examined_order};
+ghost use Rattle.deliver.specs.Answers.{totals_of};
 ghost use Rattle.undo.specs.Undoes.{Undoes};
 
-use deliver::{Undone, deliver};
+use arrays::Passed;
+use deliver::{UndoTotals, deliver};
 use examine::{admit, examine};
-use fields::Headed;
-use format::TRANSACTION_SLOTS;
 use journal::Reason;
-use rules::Verdict;
-use trace::classify;
+use trace::{Records, classify};
 
-// Take-back of a journal of n records and this many items that 1 to 13 do not refuse.
-fn undo_admitted(
-    journal: &[u8],
-    n: u32,
-    keys: u32,
-    ends: &[u8],
+// Take-back of a journal that 1 to 11 do not refuse: 13 and 12, then the rest. Its arrays share the stack with those of `examine`.
+#[inline(never)]
+fn undo_passed(
+    passed: &Passed,
     table: &mut [i32],
     bad: &[u16],
     status: &mut [u8],
     out: &mut [u8],
-) -> Undone
-    requires { Examined (examined_order (inputs_of journal.now table.old)) journal.now n keys ends.now
-        × (decide (admit_order ends.now bad.now status.old) ≡ none) }
-    ensures { Undoes (inputs_of journal.now table.old) bad.now status.old
-        out.old (answer_of result) table.new status.new out.new }
+) -> Result<UndoTotals, Reason>
+    requires { decide (examined_order (inputs_of passed.now.journal.bytes.now table.old)) ≡ none }
+    ensures { Undoes (inputs_of passed.now.journal.bytes.now table.old) bad.now status.old
+        out.old (answer_of totals_of result) table.new status.new out.new }
 {
-    let fates = classify(journal, n, ends, bad);
-    deliver(journal, n, keys, ends, &fates, table, status, out)
-}
-
-// The same, where 1 to 11 do not refuse it.
-fn undo_examined(
-    journal: &[u8],
-    n: u32,
-    keys: u32,
-    ends: &[u8],
-    table: &mut [i32],
-    bad: &[u16],
-    status: &mut [u8],
-    out: &mut [u8],
-) -> Undone
-    requires { Examined (examined_order (inputs_of journal.now table.old)) journal.now n keys ends.now }
-    ensures { Undoes (inputs_of journal.now table.old) bad.now status.old
-        out.old (answer_of result) table.new status.new out.new }
-{
-    let admitted = admit(ends, bad, status);
-    let Verdict::Passed = admitted else {
-        let Verdict::Refused(reason) = admitted else {
-            return Undone::Refused(Reason::StatusLength);
-        };
-        return Undone::Refused(reason);
+    admit(&passed.ends, bad, status)?;
+    let records = Records {
+        journal: passed.journal.bytes,
+        count: passed.journal.records,
     };
-    undo_admitted(journal, n, keys, ends, table, bad, status, out)
+    let fates = classify(&records, &passed.ends, bad);
+    deliver(
+        &records,
+        passed.journal.items,
+        &passed.ends,
+        &fates,
+        table,
+        status,
+        out,
+    )
 }
 
 // Takes back the listed transactions and those that read from them: the table, the status of each transaction number and the copy,
@@ -71,8 +55,8 @@ pub fn undo(
     bad: &[u16],
     status: &mut [u8],
     out: &mut [u8],
-) -> Undone
-    ensures answer { answer_of result
+) -> Result<UndoTotals, Reason>
+    ensures answer { answer_of totals_of result
         ≡ (calls.undo (inputs_of journal.now table.old) bad.now status.old
         out.old).answer }
     ensures table { table.new
@@ -85,13 +69,6 @@ pub fn undo(
         ≡ (calls.undo (inputs_of journal.now table.old) bad.now status.old
         out.old).out }
 {
-    let mut ends = [0u8; TRANSACTION_SLOTS];
-    let head = examine(journal, table, &mut ends);
-    let Headed::Size(n, keys) = head else {
-        let Headed::Refused(why) = head else {
-            return Undone::Refused(Reason::Truncated);
-        };
-        return Undone::Refused(why);
-    };
-    undo_examined(journal, n, keys, &ends, table, bad, status, out)
+    let passed = examine(journal, table)?;
+    undo_passed(&passed, table, bad, status, out)
 }

@@ -7,7 +7,7 @@ use Rattle.example.specs.Example.{example}
 use Rattle.format.specs.Bytes.{entry, entries}
 use Rattle.text.specs.Decimal.{digits, decimal, decimal_z}
 use Rattle.model.specs.Net.{net_change}
-use Rattle.lines.specs.AnswerLines.{undone_in, change_in, lines}
+use Rattle.lines.specs.AnswerLines.{undone_in, change_of, lines}
 use Rattle.decode.specs.Files.{amounts, transactions}
 use Rattle.report.specs.Output.{lines_of}
 use Rattle.day_report.specs.Output.{undo_files, report_of}
@@ -16,7 +16,7 @@ use Rattle.days.proofs.Computed as calls
 
 -- what a report computes with: `unfolding computed` opens what its own line names
 unfoldable computed : Unit {0}
-unfolding calls.computed net_change entry entries digits decimal decimal_z flatten undone_in change_in lines lines_of amounts transactions undo_files report_of
+unfolding calls.computed net_change entry entries digits decimal decimal_z flatten undone_in change_of lines lines_of amounts transactions undo_files report_of
 computed = tt
 
 pub decimals : Decimals

@@ -1,6 +1,6 @@
 -- Reports worked out by hand: the example of document 01, refusals, the lowest and the highest amount.
 -- Document 01, "The program's day". Assumes nothing.
-use Rattle.std.specs.Prelude.{◌≡◌, ℕ, pos, negsuc}
+use Rattle.std.specs.Prelude.{◌≡◌, ℕ, pos, negsuc, codes}
 use mathlib.Core.List.{List, [], ◌∷◌, ◌++◌, flatten}
 use Rattle.text.specs.Decimal.{decimal, decimal_z}
 use Rattle.example.specs.Records.{p0, p320, p1180, lowest, highest}
@@ -18,29 +18,24 @@ table = flatten (p320 ∷ p0 ∷ p1180 ∷ [])
 abbrev pub bad : List ℕ
 bad = 1 ∷ 0 ∷ []
 
--- "JOURNAL 11 COPY 3\n"
 abbrev pub line1 : List ℕ
-line1 = 74 ∷ 79 ∷ 85 ∷ 82 ∷ 78 ∷ 65 ∷ 76 ∷ 32 ∷ 49 ∷ 49 ∷ 32 ∷ 67 ∷ 79 ∷ 80 ∷ 89 ∷ 32 ∷ 51 ∷ 10 ∷ []
+line1 = codes "JOURNAL 11 COPY 3\n"
 
--- "BACK 1\n"
 abbrev pub line2 : List ℕ
-line2 = 66 ∷ 65 ∷ 67 ∷ 75 ∷ 32 ∷ 49 ∷ 10 ∷ []
+line2 = codes "BACK 1\n"
 
--- "BACK 2\n"
 abbrev pub line3 : List ℕ
-line3 = 66 ∷ 65 ∷ 67 ∷ 75 ∷ 32 ∷ 50 ∷ 10 ∷ []
+line3 = codes "BACK 2\n"
 
--- "ITEM 0 320 500\n"
 abbrev pub line4 : List ℕ
-line4 = 73 ∷ 84 ∷ 69 ∷ 77 ∷ 32 ∷ 48 ∷ 32 ∷ 51 ∷ 50 ∷ 48 ∷ 32 ∷ 53 ∷ 48 ∷ 48 ∷ 10 ∷ []
+line4 = codes "ITEM 0 320 500\n"
 
--- "END 1 2 0\n"
 abbrev pub line5 : List ℕ
-line5 = 69 ∷ 78 ∷ 68 ∷ 32 ∷ 49 ∷ 32 ∷ 50 ∷ 32 ∷ 48 ∷ 10 ∷ []
+line5 = codes "END 1 2 0\n"
 
--- "SUM 180\n": the kept sale 3 takes item 2 from 1000 to 1180
+-- the kept sale 3 takes item 2 from 1000 to 1180
 abbrev pub sum180 : List ℕ
-sum180 = 83 ∷ 85 ∷ 77 ∷ 32 ∷ 49 ∷ 56 ∷ 48 ∷ 10 ∷ []
+sum180 = codes "SUM 180\n"
 
 abbrev pub example_text : List ℕ
 example_text = flatten (line1 ∷ line2 ∷ line3 ∷ line4 ∷ sum180 ∷ line5 ∷ [])
@@ -51,17 +46,7 @@ Example = report_of example table bad ≡ example_text
 -- list 3: sales 1 and 2 are kept, 500 to 320, 0 to 1 and 1 to 0
 abbrev pub list3 : List (List ℕ)
 list3 =
-    -- "JOURNAL 11 COPY 8\n"
-    (74 ∷ 79 ∷ 85 ∷ 82 ∷ 78 ∷ 65 ∷ 76 ∷ 32 ∷ 49 ∷ 49 ∷ 32 ∷ 67 ∷ 79 ∷ 80 ∷ 89 ∷ 32 ∷ 56 ∷ 10 ∷ [])
-    -- "BACK 3\n"
-    ∷ (66 ∷ 65 ∷ 67 ∷ 75 ∷ 32 ∷ 51 ∷ 10 ∷ [])
-    -- "ITEM 2 1180 1000\n"
-    ∷ (73 ∷ 84 ∷ 69 ∷ 77 ∷ 32 ∷ 50 ∷ 32 ∷ 49 ∷ 49 ∷ 56 ∷ 48 ∷ 32 ∷ 49 ∷ 48 ∷ 48 ∷ 48 ∷ 10 ∷ [])
-    -- "SUM -180\n"
-    ∷ (83 ∷ 85 ∷ 77 ∷ 32 ∷ 45 ∷ 49 ∷ 56 ∷ 48 ∷ 10 ∷ [])
-    -- "END 2 1 0\n"
-    ∷ (69 ∷ 78 ∷ 68 ∷ 32 ∷ 50 ∷ 32 ∷ 49 ∷ 32 ∷ 48 ∷ 10 ∷ [])
-    ∷ []
+    codes "JOURNAL 11 COPY 8\n" ∷ codes "BACK 3\n" ∷ codes "ITEM 2 1180 1000\n" ∷ codes "SUM -180\n" ∷ codes "END 2 1 0\n" ∷ []
 
 abbrev pub Negative : Type 0
 Negative = report_of example table (3 ∷ 0 ∷ []) ≡ flatten list3
@@ -72,21 +57,17 @@ PartialEntry = report_of example (table ++ 7 ∷ 0 ∷ 9 ∷ []) (bad ++ 3 ∷ [
 
 -- ---- refusals
 
--- "REFUSED 1 0\n"
 abbrev pub refused1 : List ℕ
-refused1 = 82 ∷ 69 ∷ 70 ∷ 85 ∷ 83 ∷ 69 ∷ 68 ∷ 32 ∷ 49 ∷ 32 ∷ 48 ∷ 10 ∷ []
+refused1 = codes "REFUSED 1 0\n"
 
--- "REFUSED 3 0\n"
 abbrev pub refused3 : List ℕ
-refused3 = 82 ∷ 69 ∷ 70 ∷ 85 ∷ 83 ∷ 69 ∷ 68 ∷ 32 ∷ 51 ∷ 32 ∷ 48 ∷ 10 ∷ []
+refused3 = codes "REFUSED 3 0\n"
 
--- "REFUSED 12 1\n"
 abbrev pub refused12 : List ℕ
-refused12 = 82 ∷ 69 ∷ 70 ∷ 85 ∷ 83 ∷ 69 ∷ 68 ∷ 32 ∷ 49 ∷ 50 ∷ 32 ∷ 49 ∷ 10 ∷ []
+refused12 = codes "REFUSED 12 1\n"
 
--- "REFUSED 10 2\n"
 abbrev pub refused10 : List ℕ
-refused10 = 82 ∷ 69 ∷ 70 ∷ 85 ∷ 83 ∷ 69 ∷ 68 ∷ 32 ∷ 49 ∷ 48 ∷ 32 ∷ 50 ∷ 10 ∷ []
+refused10 = codes "REFUSED 10 2\n"
 
 -- a missing journal, a missing table, a number that is no transaction's behind 1, another amount of item 2
 pub record Refusals : Type 0 where
@@ -97,58 +78,39 @@ pub record Refusals : Type 0 where
 
 -- ---- the lowest and the highest amount: one transaction reads the one item, writes it, -2147483648 to 2147483647, and commits
 
--- "JOURNAL 3 COPY 0\n"
 abbrev pub wide1 : List ℕ
-wide1 = 74 ∷ 79 ∷ 85 ∷ 82 ∷ 78 ∷ 65 ∷ 76 ∷ 32 ∷ 51 ∷ 32 ∷ 67 ∷ 79 ∷ 80 ∷ 89 ∷ 32 ∷ 48 ∷ 10 ∷ []
+wide1 = codes "JOURNAL 3 COPY 0\n"
 
--- "ITEM 0 2147483647 -2147483648\n"
 abbrev pub wide2 : List ℕ
-wide2 =
-    73 ∷ 84 ∷ 69 ∷ 77 ∷ 32 ∷ 48 ∷ 32 ∷ 50 ∷ 49 ∷ 52 ∷ 55 ∷ 52 ∷ 56 ∷ 51 ∷ 54 ∷ 52 ∷ 55 ∷ 32 ∷ 45 ∷ 50 ∷ 49 ∷ 52 ∷ 55 ∷ 52 ∷ 56 ∷ 51
-    ∷ 54 ∷ 52 ∷ 56 ∷ 10 ∷ []
+wide2 = codes "ITEM 0 2147483647 -2147483648\n"
 
--- "END 0 1 0\n"
 abbrev pub wide3 : List ℕ
-wide3 = 69 ∷ 78 ∷ 68 ∷ 32 ∷ 48 ∷ 32 ∷ 49 ∷ 32 ∷ 48 ∷ 10 ∷ []
+wide3 = codes "END 0 1 0\n"
 
--- "SUM 0\n": the copy has no write
+-- the copy has no write
 abbrev pub sum0 : List ℕ
-sum0 = 83 ∷ 85 ∷ 77 ∷ 32 ∷ 48 ∷ 10 ∷ []
+sum0 = codes "SUM 0\n"
 
 abbrev pub Wide : Type 0
 Wide = report_of extremes highest bad ≡ flatten (wide1 ∷ line2 ∷ wide2 ∷ sum0 ∷ wide3 ∷ [])
 
--- with an empty list it is kept: "JOURNAL 3 COPY 3\n", this sum, "END 1 0 0\n"
+-- with an empty list it is kept
 abbrev pub surviving_report : List ℕ → List ℕ
-surviving_report sum =
-    flatten
-    ((74 ∷ 79 ∷ 85 ∷ 82 ∷ 78 ∷ 65 ∷ 76 ∷ 32 ∷ 51 ∷ 32 ∷ 67 ∷ 79 ∷ 80 ∷ 89 ∷ 32 ∷ 51 ∷ 10 ∷ []) ∷ sum
-    ∷ (69 ∷ 78 ∷ 68 ∷ 32 ∷ 49 ∷ 32 ∷ 48 ∷ 32 ∷ 48 ∷ 10 ∷ []) ∷ [])
+surviving_report sum = flatten (codes "JOURNAL 3 COPY 3\n" ∷ sum ∷ codes "END 1 0 0\n" ∷ [])
 
--- the lowest to the highest and back: "SUM 4294967295\n", "SUM -4294967295\n"
+-- the lowest to the highest and back
 pub record EndToEnd : Type 0 where
-  pub up : report_of extremes highest []
-      ≡ surviving_report (83 ∷ 85 ∷ 77 ∷ 32 ∷ 52 ∷ 50 ∷ 57 ∷ 52 ∷ 57 ∷ 54 ∷ 55 ∷ 50 ∷ 57 ∷ 53 ∷ 10 ∷ [])
-  pub down : report_of (one_write highest lowest) lowest []
-      ≡ surviving_report (83 ∷ 85 ∷ 77 ∷ 32 ∷ 45 ∷ 52 ∷ 50 ∷ 57 ∷ 52 ∷ 57 ∷ 54 ∷ 55 ∷ 50 ∷ 57 ∷ 53 ∷ 10 ∷ [])
+  pub up : report_of extremes highest [] ≡ surviving_report (codes "SUM 4294967295\n")
+  pub down : report_of (one_write highest lowest) lowest [] ≡ surviving_report (codes "SUM -4294967295\n")
 
 -- ---- decimals
 
 pub record Decimals : Type 0 where
-  -- "0"
-  pub zero : decimal 0 ≡ 48 ∷ []
-  -- "9"
-  pub nine : decimal 9 ≡ 57 ∷ []
-  -- "10"
-  pub ten : decimal 10 ≡ 49 ∷ 48 ∷ []
-  -- "18446744073709551615"
-  pub highest64 : decimal 18446744073709551615
-      ≡ 49 ∷ 56 ∷ 52 ∷ 52 ∷ 54 ∷ 55 ∷ 52 ∷ 52 ∷ 48 ∷ 55 ∷ 51 ∷ 55 ∷ 48 ∷ 57 ∷ 53 ∷ 53 ∷ 49 ∷ 54 ∷ 49 ∷ 53 ∷ []
-  -- "0"
-  pub none : decimal_z (pos 0) ≡ 48 ∷ []
-  -- "-1"
-  pub least : decimal_z (negsuc 0) ≡ 45 ∷ 49 ∷ []
-  -- "-2147483648"
-  pub lowest : decimal_z (negsuc 2147483647) ≡ 45 ∷ 50 ∷ 49 ∷ 52 ∷ 55 ∷ 52 ∷ 56 ∷ 51 ∷ 54 ∷ 52 ∷ 56 ∷ []
-  -- "2147483647"
-  pub highest : decimal_z (pos 2147483647) ≡ 50 ∷ 49 ∷ 52 ∷ 55 ∷ 52 ∷ 56 ∷ 51 ∷ 54 ∷ 52 ∷ 55 ∷ []
+  pub zero : decimal 0 ≡ codes "0"
+  pub nine : decimal 9 ≡ codes "9"
+  pub ten : decimal 10 ≡ codes "10"
+  pub highest64 : decimal 18446744073709551615 ≡ codes "18446744073709551615"
+  pub none : decimal_z (pos 0) ≡ codes "0"
+  pub least : decimal_z (negsuc 0) ≡ codes "-1"
+  pub lowest : decimal_z (negsuc 2147483647) ≡ codes "-2147483648"
+  pub highest : decimal_z (pos 2147483647) ≡ codes "2147483647"

@@ -1,27 +1,48 @@
--- Check, then rule 15 and the new record.
-use Rattle.std.proofs.Common.{◌∙◌}
-use Rattle.scan.proofs.Pass.{state-start}
+-- The head, check's other refusals, then rule 15 and the new record.
+use mathlib.Core.Path.{sym, ◌∙◌, ap}
+use Rattle.std.proofs.lemmas.Result.{err_from_is_err_and}
+use Rattle.journal.specs.Journal.{count}
 use Rattle.counts.specs.Answers.{record_counts_of}
-use Rattle.append.proofs.Planning.{plan-refused, plan-counted, plan-keys, plan-ready, plan-no_blind, plan-arrays, plan-matched, plan-entry}
+use Rattle.validate.proofs.Whole.{head_refused, verified_decides}
+use Rattle.append.proofs.Planning.{plan-refused, plan-matched, plan-barred, plan-entered}
 use Rattle.append.proofs.prepare.Goals as goal
 
-pub verify-head-requires : goal.verify-head-requires
-verify-head-requires c = search state-start
+pub returns-in_err-header : goal.returns-in_err-header
+returns-in_err-header c =
+    let p = err_from_is_err_and c.from_residual.result c.from_residual.ensures.1 in
+    rw (p.1, p.2) (plan-refused _ _ (record_counts_of c.args.counts) c.args.r _ (head_refused _ _ _ c.in_err-header.ensures.answer))
 
-pub returns-in_default : goal.returns-in_default
-returns-in_default c =
-    plan-refused c.args.journal.now c.args.table.now (record_counts_of c.args.counts) c.args.r c.verify-head.result c.verify-head.ensures.0 _ (c.in_default.is ∙ c.in-Refused.is)
+pub returns-in_err-verify : goal.returns-in_err-verify
+returns-in_err-verify c =
+    let p = err_from_is_err_and c.from_residual-in_err-verify.result c.from_residual-in_err-verify.ensures.1 in
+    let h = c.in_ok-header.ensures in
+    let e = rw (c.new-pass.ensures.journal, h.bytes) at c.in_err-verify.ensures.answer in
+    rw (p.1, p.2) (plan-refused _ _ (record_counts_of c.args.counts) c.args.r _ (verified_decides _ _ _ _ h.answer e))
 
 pub judge_entry-requires : goal.judge_entry-requires
 judge_entry-requires c =
-    let b = c.args.journal.now in
-    let t = c.args.table.now in
-    let k = record_counts_of c.args.counts in
-    let x = c.verify-head.result in
-    let y = c.verify-head.ensures in
-    let h = c.in-Size.is in
-    (plan-ready b t k c.args.r x y.0 _ _ h, plan-counted b t k c.args.r x y.0 _ _ h, plan-keys b t k c.args.r x y.0 _ _ h, plan-arrays b t k c.args.r x y.0 _ _ h _ _ _ _ _ _ y.1, plan-matched b t k c.args.r x y.0 _ _ h c.requires, plan-no_blind b t k c.args.r x y.0 _ _ h)
+    let h = c.in_ok-header.ensures in
+    let j = c.new-pass.ensures.journal in
+    let v = c.in_ok-verify.ensures in
+    let e = rw (j, h.bytes) at v.answer in
+    (v.all ∙ ap (λ j. j.records) (sym v.journal), rw (v.journal, j, h.bytes) (plan-matched _ _ (record_counts_of c.args.counts) c.args.r (verified_decides _ _ _ _ h.answer e) c.requires))
+
+pub returns-in_err-judge_entry : goal.returns-in_err-judge_entry
+returns-in_err-judge_entry c =
+    let p = err_from_is_err_and c.from_residual-in_err-judge_entry.result c.from_residual-in_err-judge_entry.ensures.1 in
+    let h = c.in_ok-header.ensures in
+    let j = c.new-pass.ensures.journal in
+    let v = c.in_ok-verify.ensures in
+    let e = rw (j, h.bytes) at v.answer in
+    let f = rw (v.journal, j, h.bytes) at c.in_err-judge_entry.ensures in
+    rw (p.1, p.2) (plan-barred _ _ _ _ (verified_decides _ _ _ _ h.answer e) _ f)
 
 pub returns : goal.returns
 returns c =
-    plan-entry c.args.journal.now c.args.table.now (record_counts_of c.args.counts) c.args.r c.verify-head.result c.verify-head.ensures.0 _ _ c.in-Size.is _ c.judge_entry.ensures
+    let h = c.in_ok-header.ensures in
+    let j = c.new-pass.ensures.journal in
+    let v = c.in_ok-verify.ensures in
+    let e = rw (j, h.bytes) at v.answer in
+    let n = v.all ∙ ap (λ j. j.records) j ∙ c.in_ok-header.field-0.opened.counted ∙ ap count h.bytes in
+    let f = rw (v.journal, j, h.bytes) at c.in_ok-judge_entry.ensures in
+    plan-entered _ _ _ _ (verified_decides _ _ _ _ h.answer e) _ n f

@@ -1,28 +1,16 @@
--- `chain::follow` meets its contract: as the chain is followed, its record numbers are written one by one.
-use borrow.Author.Rules.{rules}
-use Rattle.chain.proofs.Steps.{walking_start, walking-long, walking-less, walking-step, walking-in, walking-write, walking-written, walking-same}
+-- The record numbers so far are the front of the list.
+use Rattle.std.proofs.Common.{◌∙◌}
+use Rattle.chain.proofs.Steps.{written-left, written-set, written_all}
 use Rattle.chain.proofs.follow.Goals as goal
 
-pub loop-i-init : goal.loop-i-init
-loop-i-init c = (search walking_start, search)
-
-pub offset_bounds-lsns-k : goal.offset_bounds-lsns-k
-offset_bounds-lsns-k c = search (walking-in, rules)
-
-pub bounds-lsns-k : goal.bounds-lsns-k
-bounds-lsns-k c = search walking-in
-
-pub next_at-i-requires : goal.next_at-i-requires
-next_at-i-requires c = search walking-long
-
-pub loop-i-smaller : goal.loop-i-smaller
-loop-i-smaller c = search walking-less
-
-pub loop-i-preserved : goal.loop-i-preserved
-loop-i-preserved c = (search walking-step, search walking-write)
-
-pub shape_of-lsns : goal.shape_of-lsns
-shape_of-lsns c = search walking-same
+pub loop-k-preserved : goal.loop-k-preserved
+loop-k-preserved c =
+    let s = c.in-Some.ensures.steps in
+    let e = c.loop-k.invariant.left ∙ s.0 in
+    record {
+      left = rw s.2 (written-left _ _ c.requires _ _ _ e);
+      written = rw (s.1, s.2, c.loop-k.invariant.written) (written-set _ _ c.requires _ _ _ e);
+    }
 
 pub returns : goal.returns
-returns c = search walking-written
+returns c = c.loop-k.invariant.written ∙ written_all _ _ c.requires _ (c.loop-k.invariant.left ∙ c.in-None.ensures.steps.0.0)

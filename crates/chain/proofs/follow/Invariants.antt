@@ -1,13 +1,12 @@
-use mathlib.Core.Path.{◌≡◌}
-use Prim.Native.Nat.{◌-◌}
-use lib.ListN.{take}
-use Rattle.journal.specs.Journal.{count}
-use Rattle.journal.specs.Calls.{walk, written}
-use Rattle.chain.proofs.Steps.{Walking}
+use Rattle.std.proofs.Common.{◌≡◌, take, drop}
+use Rattle.journal.specs.Calls.{written}
+use Rattle.chain.specs.Answers.{walk_from}
 use Rattle.chain.proofs.follow.Given as goal
 
-abbrev pub invariant-loop-i : goal.invariant-loop-i
-invariant-loop-i l = Walking l.journal l.initial.i.0 l.k l.i.0 × (l.lsns ≡ written (take l.k (walk l.journal (count l.journal) l.initial.i.0)) l.initial.lsns)
-
-abbrev pub decreases-loop-i : goal.decreases-loop-i
-decreases-loop-i l = count l.journal - l.k
+abbrev pub invariant-loop-k : goal.invariant-loop-k
+invariant-loop-k l =
+    let all = walk_from l.fn.walk.journal.now l.fn.walk.next.0 in
+    record {
+      left : drop l.k-iterator.count all ≡ walk_from l.k-iterator.iter.journal.now l.k-iterator.iter.next.0;
+      written : l.lsns ≡ written (take l.k-iterator.count all) l.initial.lsns;
+    }

@@ -1,18 +1,18 @@
--- `chain::visited` meets its contract: the records of the chain are counted as it is followed.
-use Rattle.chain.proofs.Steps.{walking_start, walking-long, walking-less, walking-step, walking-counts, walking-few}
+-- A walk visits as many records as come from it, at most as many as the journal has.
+use mathlib.Core.Logic.{inl}
+use native.Mathlib.Omega.{arith}
+use Rattle.journal.specs.Journal.{count}
+use Rattle.chain.proofs.Steps.{length-walk}
 use Rattle.chain.proofs.visited.Goals as goal
 
-pub loop-i-init : goal.loop-i-init
-loop-i-init c = search walking_start
+pub count-requires-clause-fits : goal.count-requires-clause-fits
+count-requires-clause-fits c =
+    let w = c.args.walk in
+    let h = length-walk w.journal.now (count w.journal.now) w.next.0 in
+    inl (omega (arith, w.ready.few))
 
-pub next_at-i-requires : goal.next_at-i-requires
-next_at-i-requires c = search walking-long
-
-pub loop-i-smaller : goal.loop-i-smaller
-loop-i-smaller c = search walking-less
-
-pub loop-i-preserved : goal.loop-i-preserved
-loop-i-preserved c = search walking-step
-
-pub returns : goal.returns
-returns c = (search walking-counts, search walking-few)
+pub returns-clause-bound : goal.returns-clause-bound
+returns-clause-bound c =
+    let w = c.args.walk in
+    let h = length-walk w.journal.now (count w.journal.now) w.next.0 in
+    omega (arith, w.ready.few, c.count.ensures.bound)

@@ -1,6 +1,9 @@
--- `examine::admit` meets its contract: 13 decides, by admit_status, or else 12.
-use Rattle.examine.proofs.Examining.{admit-known}
+-- 13 decides, or else 12.
+use Rattle.examine.proofs.Examining.{admit_status, admit-known}
 use Rattle.examine.proofs.admit.Goals as goal
+
+pub returns-then-status-ne-STATUS_BYTES : goal.returns-then-status-ne-STATUS_BYTES
+returns-then-status-ne-STATUS_BYTES c = search admit_status
 
 pub returns : goal.returns
 returns c = search admit-known

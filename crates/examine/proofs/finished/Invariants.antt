@@ -1,11 +1,9 @@
-use Rattle.std.specs.Prelude.{◌≡◌, ◌≤◌, ◌-◌}
+-- No transaction below s is active, so what is left decides.
+use Rattle.std.proofs.Common.{◌≡◌, ◌-◌}
+use Rattle.model.specs.History.{active}
 use Rattle.journal.specs.Orders.{try_each, active_order, decide}
-use Rattle.settle.specs.Active.{active_in}
+use Rattle.arrays.specs.Past.{past}
 use Rattle.examine.proofs.finished.Given as goal
 
--- no transaction below s is active, so what is left decides
 abbrev pub invariant-loop-s : goal.invariant-loop-s
-invariant-loop-s l = (1 ≤ l.s) × (l.s ≤ 1025) × (decide (active_order (active_in l.ends l.firsts)) ≡ decide (try_each 11 (active_in l.ends l.firsts) l.s (1025 - l.s)))
-
-abbrev pub decreases-loop-s : goal.decreases-loop-s
-decreases-loop-s l = 1025 - l.s
+invariant-loop-s l = decide (active_order (active (past l.pass))) ≡ decide (try_each 11 (active (past l.pass)) l.s (1025 - l.s))

@@ -1,9 +1,10 @@
--- The writes are undone from the last record to the first.
-use Rattle.extend.proofs.Tables.{Undoing}
+-- The writes are undone from the last record to the first: those of the first k remain.
+use Rattle.std.proofs.Common.{◌≡◌, ◌+◌}
+use Rattle.model.specs.History.{abort}
+use Rattle.journal.specs.Journal.{history}
+use Rattle.journal.specs.Calls.{applied_table}
 use Rattle.extend.proofs.restore.Given as goal
 
-abbrev pub invariant-loop-i : goal.invariant-loop-i
-invariant-loop-i l = Undoing l.journal l.n l.s.0 l.initial.table l.i l.table
-
-abbrev pub decreases-loop-i : goal.decreases-loop-i
-decreases-loop-i l = l.i
+abbrev pub invariant-loop-k : goal.invariant-loop-k
+invariant-loop-k l =
+    applied_table (history l.journal l.k) (abort (l.n + 1) l.s.0) l.table ≡ applied_table (history l.journal l.n) (abort (l.n + 1) l.s.0) l.initial.table

@@ -1,19 +1,15 @@
--- `repair::copy_records` meets its contract: after i records it has written what they write.
-use mathlib.Core.Path.{refl}
-use native.Mathlib.Omega.{arith}
-use borrow.Author.Rules.{rules}
-use Rattle.lists.proofs.TablesLaws.{stepped_start, stepped-turn, stepped-done}
+-- After i records it has written what they write.
+use Rattle.std.proofs.Common.{refl, ◌∙◌}
+use Rattle.lists.proofs.TablesLaws.{stepped_start, stepped-turn}
 use Rattle.repair.proofs.CopyLaws.{copy-room}
 use Rattle.repair.proofs.copy_records.Goals as goal
 
 pub loop-i-init : goal.loop-i-init
-loop-i-init c = (omega arith, search stepped_start, refl)
+loop-i-init c = (stepped_start _ _, refl)
 
-pub copy_record-requires : goal.copy_record-requires
-copy_record-requires c = (omega arith, omega arith, search copy-room)
+pub copy_record-requires-clause-room : goal.copy_record-requires-clause-room
+copy_record-requires-clause-room c = copy-room _ _ _ _ _ _ _ c.requires.ranked c.loop-i-test.true c.requires.room c.loop-i.invariant.1
 
 pub loop-i-preserved : goal.loop-i-preserved
-loop-i-preserved c = (omega arith, search stepped-turn, search rules)
-
-pub returns : goal.returns
-returns c = search stepped-done
+loop-i-preserved c =
+    (stepped-turn _ _ _ _ _ c.loop-i.invariant.0 c.copy_record.ensures, c.copy_record.auto.out ∙ c.loop-i.invariant.1)

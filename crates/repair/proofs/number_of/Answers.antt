@@ -1,16 +1,19 @@
--- `repair::number_of` meets its contract: after s transactions the count is theirs.
-use native.Mathlib.Omega.{arith}
-use Rattle.trace.proofs.CodesLaws.{number-start, number_step, number-few, number-done}
+-- One transaction more a turn.
+use Rattle.std.proofs.Common.{sym, ap, ◌∙◌, get_or, arith}
+use Rattle.repair.proofs.Numbers.{number-start, number-few, number-more, number-same}
 use Rattle.repair.proofs.number_of.Goals as goal
+use Rattle.repair.proofs.number_of.Goals.{then-eq, else-eq}
 
-pub loop-s-init : goal.loop-s-init
-loop-s-init c = (omega arith, search number-start)
+pub loop-i-init : goal.loop-i-init
+loop-i-init g c = number-start (λ s. g.T.PartialEq.eq (get_or c.args.list.now s c.args.default) c.args.v)
 
-pub one_more-count-requires : goal.one_more-count-requires
-one_more-count-requires c = search number-few
+pub overflow_add-count : goal.overflow_add-count
+overflow_add-count g c = let n = number-few _ _ _ c.loop-i.invariant in omega arith
 
-pub loop-s-preserved : goal.loop-s-preserved
-loop-s-preserved c = (omega arith, search number_step)
-
-pub returns : goal.returns
-returns c = search number-done
+pub loop-i-preserved : goal.loop-i-preserved
+loop-i-preserved g c =
+    let e = ap (λ x. g.T.PartialEq.eq x c.args.v) (sym c.at.ensures) ∙ sym c.eq.ensures in
+    elim c.if-eq.branch [
+      | then-eq w ↦ w.count-is ∙ number-more _ _ _ c.loop-i.invariant _ e w.if-eq.true
+      | else-eq w ↦ w.count-is ∙ number-same _ _ _ c.loop-i.invariant _ e w.if-eq.false
+    ]

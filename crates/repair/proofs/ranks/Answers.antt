@@ -1,18 +1,16 @@
--- `repair::ranks` meets its contract: after i records the first i + 1 ranks are written.
-use mathlib.Core.Path.{refl}
-use native.Mathlib.Omega.{arith}
-use Rattle.repair.proofs.RankLaws.{rank-start, ranks-start, rank-at-most, surviving-step, ranks-step, ranks-done}
+-- One rank more a turn.
+use Rattle.std.proofs.Common.{refl, arith, rules}
+use Rattle.repair.proofs.Numbers.{filled-more}
+use Rattle.repair.proofs.RankLaws.{rank-start, ranks-start, rank-more, rank-at-most}
 use Rattle.repair.proofs.ranks.Goals as goal
 
-pub next_rank-surviving-requires : goal.next_rank-surviving-requires
-next_rank-surviving-requires c =
-    (omega arith, omega arith, omega (arith, rank-at-most _ _ _ _ c.loop-i.invariant.1))
-
 pub loop-i-init : goal.loop-i-init
-loop-i-init c = (omega arith, search rank-start, search ranks-start, refl)
+loop-i-init c = record { counted = rank-start _ _; size = refl; at = ranks-start _ _ }
+
+pub next_rank-surviving-requires-clause-few : goal.next_rank-surviving-requires-clause-few
+next_rank-surviving-requires-clause-few c = let few = rank-at-most _ _ _ _ c.loop-i.invariant.counted in omega arith
 
 pub loop-i-preserved : goal.loop-i-preserved
-loop-i-preserved c = (omega arith, search surviving-step, search ranks-step, search)
-
-pub returns : goal.returns
-returns c = search ranks-done
+loop-i-preserved c =
+    let more = rank-more _ _ _ _ _ c.loop-i.invariant.counted c.next_rank-surviving.ensures in
+    record { counted = more; size = search rules; at = filled-more _ _ _ _ (omega arith) more c.loop-i.invariant.at }

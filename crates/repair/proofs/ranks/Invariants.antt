@@ -1,13 +1,13 @@
-use Prim.Native.Nat.{◌≤◌, ◌-◌, ◌+◌}
-use lib.ListN.{replicate}
-use mathlib.Core.Path.{◌≡◌}
+use Rattle.std.proofs.Common.{◌≡◌, ◌≤◌, ℕ, length, get_or}
 use Rattle.lists.specs.Tables.{coded}
+use Rattle.trace.specs.Codes.{fate_codes}
 use Rattle.repair.specs.Copying.{rank}
-use Rattle.trace.specs.Codes.{partly}
 use Rattle.repair.proofs.ranks.Given as goal
 
 abbrev pub invariant-loop-i : goal.invariant-loop-i
-invariant-loop-i l = (l.i ≤ l.n) × (l.surviving ≡ rank (coded 1 l.fates) l.journal l.i) × (l.all ≡ partly (rank (coded 1 l.fates) l.journal) (l.i + 1) l.initial.all) × (l.initial.all ≡ replicate 3201 0)
-
-abbrev pub decreases-loop-i : goal.decreases-loop-i
-decreases-loop-i l = l.n - l.i
+invariant-loop-i l =
+    record {
+      counted : l.surviving ≡ rank (coded 1 (fate_codes l.fates)) l.records.journal.now l.i;
+      size : length l.all ≡ 3201;
+      at : (k : ℕ) → k ≤ l.i → get_or l.all k 0 ≡ rank (coded 1 (fate_codes l.fates)) l.records.journal.now k;
+    }

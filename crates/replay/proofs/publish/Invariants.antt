@@ -1,12 +1,7 @@
-use Prim.Native.Nat.{◌≤◌, ◌-◌}
-use lib.ListN.{length}
-use mathlib.Core.Path.{◌≡◌}
-use Rattle.trace.proofs.CodesLaws.{elements}
-use Rattle.trace.specs.Codes.{partly}
+use Rattle.std.proofs.Common.{◌≡◌, ℕ, ◌<◌, get_or}
+use Rattle.trace.specs.declared.Fate.TheVariants.{Neither}
+use Rattle.trace.specs.Codes.{fate_code}
 use Rattle.replay.proofs.publish.Given as goal
 
 abbrev pub invariant-loop-s : goal.invariant-loop-s
-invariant-loop-s l = (l.s ≤ 1025) × (l.status ≡ partly (elements l.fates) l.s l.initial.status) × (length l.status ≡ length l.initial.status)
-
-abbrev pub decreases-loop-s : goal.decreases-loop-s
-decreases-loop-s l = 1025 - l.s
+invariant-loop-s l = (k : ℕ) → k < l.s → get_or l.status k 0 ≡ fate_code (get_or l.fates k Neither)

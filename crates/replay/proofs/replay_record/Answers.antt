@@ -1,10 +1,18 @@
--- `replay::replay_record` meets its contract: one record, by its kind.
-use borrow.Author.Rules.{rules}
-use Rattle.replay.proofs.ReplayLaws.{table-write, seen-write, table-other, seen_other}
+-- One record, by its kind.
+use Rattle.std.proofs.Common.{rules}
+use Rattle.replay.specs.Replaying.{replay_step}
+use Rattle.replay.proofs.ReplayLaws.{step-write, step-other}
 use Rattle.replay.proofs.replay_record.Goals as goal
 
-pub returns-in-2 : goal.returns-in-2
-returns-in-2 c = (search seen-write, search (table-write, rules, c.record_at-r.type_inv))
+pub returns-in-Ok-Write : goal.returns-in-Ok-Write
+unfolding replay_step
+returns-in-Ok-Write c =
+    rw (← c.at-r.ensures, c.put.ensures, c.replay_write.ensures) (step-write c.args.i.0 c.at-r.result _ _ _ (search rules))
 
-pub returns-in_default : goal.returns-in_default
-returns-in_default c = (search seen_other, search table-other)
+pub returns : goal.returns
+unfolding replay_step
+returns c = rw (← c.at-r.ensures) (step-other c.args.i.0 c.at-r.result _ _ _ (search rules))
+
+pub returns-2 : goal.returns-2
+unfolding replay_step
+returns-2 c = rw (← c.at-r.ensures) (step-other c.args.i.0 c.at-r.result _ _ _ (search rules))

@@ -1,13 +1,8 @@
--- `trace::fates` meets its contract: each turn writes one fate more.
-use native.Mathlib.Omega.{arith}
-use Rattle.trace.proofs.CodesLaws.{partly-start, fates-step, fates-done}
+-- After the last turn each transaction has its fate.
+use Rattle.std.proofs.Common.{arith}
+use Rattle.trace.proofs.CodesLaws.{fates-done}
 use Rattle.trace.proofs.fates.Goals as goal
 
-pub loop-s-init : goal.loop-s-init
-loop-s-init c = (omega arith, search partly-start)
-
-pub loop-s-preserved : goal.loop-s-preserved
-loop-s-preserved c = (omega arith, search fates-step)
-
 pub returns : goal.returns
-returns c = search fates-done
+returns c =
+    fates-done _ _ c.loop-i.all c.loop-i.invariant.0 (λ k h. c.loop-i.invariant.1 k (omega arith))

@@ -1,11 +1,10 @@
-use Prim.Native.Nat.{◌≤◌, ◌-◌}
-use mathlib.Core.Path.{◌≡◌}
-use Rattle.trace.proofs.CodesLaws.{fate_at}
-use Rattle.trace.specs.Codes.{partly}
+use Rattle.std.proofs.Common.{◌≡◌, ℕ, ◌<◌, false, length, get_or}
+use Rattle.arrays.specs.declared.end.End.TheVariants.{Open}
+use Rattle.arrays.specs.Ends.{code_of}
+use Rattle.trace.specs.declared.Fate.TheVariants.{Neither}
+use Rattle.trace.specs.Codes.{fate_of}
 use Rattle.trace.proofs.fates.Given as goal
 
-abbrev pub invariant-loop-s : goal.invariant-loop-s
-invariant-loop-s l = (l.s ≤ 1025) × (l.all ≡ partly (fate_at l.ends l.flags) l.s l.initial.all)
-
-abbrev pub decreases-loop-s : goal.decreases-loop-s
-decreases-loop-s l = 1025 - l.s
+abbrev pub invariant-loop-i : goal.invariant-loop-i
+invariant-loop-i l =
+    (length l.all ≡ 1025) × ((k : ℕ) → k < l.i → get_or l.all k Neither ≡ fate_of (code_of (get_or l.ends k Open)) (get_or l.flags k false))

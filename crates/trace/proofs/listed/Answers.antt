@@ -1,17 +1,10 @@
--- `trace::listed` meets its contract: the list from its end to its front, one flag more a turn.
-use native.Mathlib.Omega.{arith}
-use Rattle.trace.proofs.CodesLaws.{listed_start, listed-step, listed-done}
-use Rattle.trace.proofs.TraceLaws.{flags-count}
+-- One transaction more of the list a turn.
+use Rattle.std.proofs.Common.{◌∙◌}
+use Rattle.trace.proofs.CodesLaws.{listed_start, listed-step}
 use Rattle.trace.proofs.listed.Goals as goal
 
-pub loop-k-init : goal.loop-k-init
-loop-k-init c = (omega arith, search listed_start)
+pub loop-s-init : goal.loop-s-init
+loop-s-init c = listed_start c.args.bad.now
 
-pub slice_bounds-set_code_of-end : goal.slice_bounds-set_code_of-end
-slice_bounds-set_code_of-end c = search flags-count
-
-pub loop-k-preserved : goal.loop-k-preserved
-loop-k-preserved c = (omega arith, search listed-step)
-
-pub returns : goal.returns
-returns c = search listed-done
+pub loop-s-preserved : goal.loop-s-preserved
+loop-s-preserved c = c.put.ensures ∙ rw c.loop-s.invariant (listed-step c.args.bad.now c.loop-s.s-index c.loop-s-test.true)

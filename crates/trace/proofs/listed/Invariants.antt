@@ -1,11 +1,6 @@
-use Prim.Native.Nat.{◌≤◌}
-use lib.ListN.{length, drop}
-use mathlib.Core.Path.{◌≡◌}
+use Rattle.std.proofs.Common.{◌≡◌, take}
 use Rattle.trace.specs.Codes.{flags_of}
 use Rattle.trace.proofs.listed.Given as goal
 
-abbrev pub invariant-loop-k : goal.invariant-loop-k
-invariant-loop-k l = (l.k ≤ length l.bad) × (l.flags ≡ flags_of (drop l.k l.bad))
-
-abbrev pub decreases-loop-k : goal.decreases-loop-k
-decreases-loop-k l = l.k
+abbrev pub invariant-loop-s : goal.invariant-loop-s
+invariant-loop-s l = l.flags ≡ flags_of (take l.s-index l.bad)

@@ -1,4 +1,0 @@
-pub mod StartLaws
-pub mod CheckLaws
-pub mod ChainLaws
-pub mod CountLaws

@@ -1,9 +1,0 @@
--- `lists::number_at` meets its contract: a number behind the end is 0.
--- Assumes nothing.
-use borrow.Author.Rules.{rules}
-use Rattle.lists.proofs.TablesLaws.{none-behind}
-use Rattle.lists.proofs.number_at.Statement.{statement}
-use Rattle.lists.proofs.number_at.Tie as tie
-
-pub number_at_spec : {M : Type 1} → statement M
-number_at_spec = tie.close (tie.spec (λ c. search rules) (λ c. search rules) (λ c. search rules) (λ c. search none-behind))

@@ -1,0 +1,6 @@
+-- The head is stored in front, and the records behind it.
+use Rattle.repair.proofs.CopyLaws.{copied_all}
+use Rattle.repair.proofs.copy.Goals as goal
+
+pub returns : goal.returns
+returns c = copied_all _ _ _ _ _ _ _ _ _ c.requires.ranked c.requires.room c.at.ensures c.put_record.ensures c.copy_records.ensures
