@@ -1,25 +1,20 @@
 -- What append answers and leaves, by what its order decides.
 -- Assumes nothing.
-use mathlib.Core.Path.{◌≡◌, refl, sym, ◌∙◌}
-use mathlib.Core.Bool.{cond}
+use mathlib.Core.Path.{◌≡◌, refl, ◌∙◌}
 use mathlib.Core.List.{List}
 use mathlib.Core.Option.{none, some}
-use Prim.Native.Nat.{ℕ, suc, ◌+◌, ◌≤◌}
+use Prim.Native.Nat.{ℕ, suc, ◌+◌}
 use native.Mathlib.Omega.{arith}
-use lib.Dec.{eqb}
-use lib.IntN.{pos}
-use lib.ListN.{length, get_or-eq_default}
 use mir.Syntax.{w32}
 use mir.Val.{to_z, of_z, SFits}
 use mir.ValLaws.{to_z-of_z}
-use borrow.Author.Tests.{eq-eqb, ne_eqb}
 use Rattle.std.specs.Prelude.{Ok, Err}
 use Rattle.format.specs.declared.Record.{Record}
 use Rattle.model.specs.History.{Amount}
 use Rattle.journal.specs.Inputs.{inputs_of}
 use Rattle.journal.specs.declared.Reason.{Reason}
 use Rattle.journal.specs.Reasons.{number_of, place_of}
-use Rattle.journal.specs.Journal.{count, op_of, history, whole, amount_at}
+use Rattle.journal.specs.Journal.{count, op_of, history, whole}
 use Rattle.journal.specs.Orders.{decide, append_order}
 use Rattle.journal.specs.Calls.{refused, accepted, answered, new_record, extended, applied_table, raised, append}
 use Rattle.journal.proofs.Clear.{decide-clear, clear-decide}
@@ -31,41 +26,14 @@ use Rattle.counts.specs.declared.Counts.{Counts}
 use Rattle.counts.specs.Answers.{record_counts_of}
 use Rattle.extend.specs.Entering.{Admitted}
 use Rattle.entry.proofs.Agreeing.{agreed-few}
-use Rattle.append.specs.Answers.{FromTable, Appends}
+use Rattle.append.specs.Answers.{Appends}
 use Rattle.journal.proofs.Answered.{accepted-only, refused-only}
 
 -- ---- the new record
 
-module _ (t : List Amount) (kind x : ℕ) where
-  pub image-none : (kind ≡ 2 → ⊥) → pos 0 ≡ cond (eqb kind 2) (amount_at t x) (pos 0)
-  image-none h = rw (ne_eqb kind 2 h)
-
-  pub image-out : kind ≡ 2 → length t ≤ x → pos 0 ≡ cond (eqb kind 2) (amount_at t x) (pos 0)
-  image-out e h = rw (eq-eqb kind 2 e) (sym (get_or-eq_default t (pos 0) {n = x} h))
-
-  pub image-in : kind ≡ 2 → SFits w32 (amount_at t x) → to_z w32 (of_z w32 (amount_at t x)) ≡ cond (eqb kind 2) (amount_at t x) (pos 0)
-  image-in e f = rw (eq-eqb kind 2 e) (to_z-of_z w32 (amount_at t x) f)
-
-pub new_is : (t : List Amount) (kind s x : ℕ) (a v : Amount) → SFits w32 a → SFits w32 v → v ≡ cond (eqb kind 2) (amount_at t x) (pos 0)
-    → ◌≡◌ {A = Record}
-    (record {
-      kind = kind;
-      reserved = 0;
-      transaction = record { 0 = s };
-      next = record { 0 = 0 };
-      item = record { 0 = x };
-      before = to_z w32 (of_z w32 v);
-      after = to_z w32 (of_z w32 a);
-    })
-    (new_record t kind s x a)
-new_is t kind s x a v f g e = rw (to_z-of_z w32 a f, to_z-of_z w32 v g, e)
-
 -- an amount read back from its bits
 pub from_bits : (t : List Amount) (kind s x : ℕ) (a : Amount) (r : Record) → SFits w32 a → r ≡ new_record t kind s x (to_z w32 (of_z w32 a)) → r ≡ new_record t kind s x a
 from_bits t kind s x a r f e = e ∙ rw (to_z-of_z w32 a f)
-
-pub from-table : (t : List Amount) (kind s x : ℕ) (a : Amount) (r : Record) → r ≡ new_record t kind s x a → FromTable t r
-from-table t kind s x a r e = rw e (λ h. rw (eq-eqb kind 2 h))
 
 -- ---- refused, or done
 

@@ -18,7 +18,7 @@ use fields::header;
 use format::{Key, Kind, Lsn, Record, TransactionId};
 use journal::Reason;
 use lists::at;
-use validate::verify;
+use validate::verify_opened;
 
 // The record count of a journal that takes the new record, or the first refusal in document 01's order: check, then the rest.
 fn prepare(journal: &[u8], table: &[i32], counts: Counts, r: Record) -> Result<u32, Reason>
@@ -28,7 +28,7 @@ fn prepare(journal: &[u8], table: &[i32], counts: Counts, r: Record) -> Result<u
         (count journal.now) }
 {
     let mut pass = Pass::new(header(journal)?);
-    verify(&mut pass, table)?;
+    verify_opened(&mut pass, table)?;
     judge_entry(&pass, counts, r)?;
     Ok(pass.n)
 }
@@ -37,7 +37,7 @@ fn prepare(journal: &[u8], table: &[i32], counts: Counts, r: Record) -> Result<u
 fn before_image(table: &[i32], kind: u8, item: Key) -> i32
     ensures { result ≡ cond (eqb kind 2) (amount_at table.now item.0) (pos 0) }
 {
-    if kind == Kind::Write as u8 {
+    if let Ok(Kind::Write) = Kind::try_from(kind) {
         at(table, item, 0)
     } else {
         0
@@ -60,7 +60,8 @@ fn new_record(table: &[i32], kind: u8, transaction: TransactionId, item: Key, af
     }
 }
 
-// Adds one record to a journal (document 01, post): decides first, then writes. One of the four counts, which are lent, rises by one.
+// Adds one record to a journal (document 01, post): decides first, then writes. One of the four counts, which are lent, rises by one. The
+// kind is any byte, since document 01 has a refusal for one of no kind; the parameters are document 01's, one by one, as C gives them.
 pub fn append(
     counts: &mut Counts,
     journal: &mut [u8],

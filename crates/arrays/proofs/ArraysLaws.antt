@@ -1,15 +1,14 @@
 -- The working arrays: what stands at an index; and a record by its kind.
 -- Assumes nothing.
-use mathlib.Core.Path.{◌≡◌, refl}
+use mathlib.Core.Path.{◌≡◌}
 use mathlib.Core.Bool.{Bool, true, false, cond}
-use mathlib.Core.List.{List, []}
+use mathlib.Core.List.{List}
 use Prim.Native.Nat.{ℕ, ◌<◌}
 use native.Mathlib.Omega.{arith}
 use lib.Dec.{eqb}
-use lib.ListN.{length, replicate}
 use borrow.Author.Tests.{eqb-true}
 use Rattle.lists.proofs.BoolLaws.{by_cases}
-use Rattle.lists.proofs.TablesLaws.{ByIndex, by_index, by-index-all}
+use Rattle.lists.proofs.TablesLaws.{ByIndex, by_index}
 use Rattle.format.specs.declared.Record.{Record}
 use Rattle.model.specs.History.{Op, History, Tag, read, write, commit, abort, other, tag_in}
 use Rattle.journal.specs.Journal.{items, tx_in, op_of}
@@ -40,13 +39,6 @@ module _ (p : History) where
   pub reads-array : ByIndex (λ x. newest (reads_since x p)) 1024 (reads_of p)
   unfolding reads_of
   reads-array = by_index _ 1024
-
-  pub length-ends : length (ends_of p) ≡ 1025
-  length-ends = ends-array.size
-
--- before the first record
-pub ends-start : replicate 1025 0 ≡ ends_of []
-ends-start = by-index-all 0 0 (ends-array []) (λ j. refl)
 
 -- ---- the operation of a record, by its kind
 

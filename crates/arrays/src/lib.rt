@@ -12,6 +12,7 @@ mod pass;
 
 pub use end::End;
 use format::{Key, Lsn, TransactionId, transaction_at};
+use lists::Number;
 pub use pass::{Pass, Passed};
 
 // Who touched an item: another active transaction, and the one that asks.
@@ -21,7 +22,7 @@ pub struct Touched {
     pub own: bool,
 }
 
-// Those found, and transaction v; s asks.
+// What was found so far, with transaction v added; s asks.
 pub fn look(ends: &[End], s: TransactionId, v: TransactionId, found: Touched) -> Touched
     requires { v.0 < length ends.now }
     ensures { result ≡ looked (codes ends.now) s.0 v.0 found }
@@ -29,7 +30,7 @@ pub fn look(ends: &[End], s: TransactionId, v: TransactionId, found: Touched) ->
     if s == v {
         return Touched { own: true, ..found };
     }
-    match ends[v.0 as usize] {
+    match ends[v.index()] {
         End::Open => Touched {
             other: true,
             ..found
@@ -47,7 +48,7 @@ pub fn last_writer(pass: &Pass, x: Key, s: TransactionId) -> Touched
         other: false,
         own: false,
     };
-    let w = Lsn(pass.writes[x.0 as usize]);
+    let w = Lsn(pass.writes[x.index()]);
     if w.0 == 0 {
         return nobody;
     }

@@ -9,8 +9,11 @@ use crate::end::End;
 use fields::Journal;
 use format::{ITEM_SLOTS, RECORD_SLOTS, TRANSACTION_SLOTS};
 
-// Records 1 to n have passed rules 4 to 9; what is kept of them. Of each transaction its end and its first record; of each item its
-// last write, the first write by the same transaction and the newest read since; of each read the read before it. 0 is none.
+// Records 1 to n have passed rules 4 to 9; what is kept of them. Whether these are all, n says, so that is a clause where it is asked.
+// Of each transaction its end and its first record; of each item its last write, the first write by the same transaction and the newest
+// read since; of each read the read before it. 0 is none: an `Option` would take twice the bytes, past the stack that
+// bindings/c/journal.h promises. Without a heap there are arrays for the most that a journal has, and a chain of reads is linked by
+// record numbers; the arrays stand apart, since each step reads one or two.
 #[derive(Drop)]
 pub struct Pass<'j> {
     pub journal: Journal<'j>,

@@ -1,4 +1,5 @@
 // Post for C: the refusal's number as the result, 0 if the call is accepted; the refusal's place in `answer`.
+// The archive exports the functions of capi alone: the C function stands there and calls this one.
 #![tactic(auto)]
 
 ghost use Rattle.journal.specs.Inputs.{inputs_of};
@@ -29,9 +30,9 @@ pub fn append(
         (record_counts_in counts.old) (record { kind = kind; tx = transaction; item = item; after = after })
         (appended_in result answer.new journal.new table.new counts.new) }
 {
-    let mut tally = Counts::from(*counts);
+    let mut lent = Counts::from(*counts);
     let appended = certified::append(
-        &mut tally,
+        &mut lent,
         journal,
         table,
         kind,
@@ -39,12 +40,8 @@ pub fn append(
         Key(item),
         after,
     );
-    match appended {
-        Ok(()) => {
-            *counts = tally.into();
-            *answer = 0;
-            0
-        }
-        Err(why) => c_answers::refuse(why, answer),
+    if let Ok(()) = appended {
+        *counts = lent.into();
     }
+    c_answers::hand_over(appended.map(|()| 0), answer)
 }

@@ -1,5 +1,5 @@
 // Start, check, slip and counting for C: the refusal's number as the result, 0 if the call is accepted; the place or the
-// value in `answer`.
+// value in `answer`. The archive exports the functions of capi alone: the C functions stand there and call these.
 #![tactic(auto)]
 
 ghost use Rattle.std.specs.Prelude.{◌≡◌};
@@ -56,12 +56,9 @@ pub fn count_records(journal: &[u8], counts: &mut [u32; 4], answer: &mut u64) ->
         ≡ loan_with count_list counts.old (calls.count_records journal.now) }
     ensures demands { CountPromise journal.now (counted_in result answer.new counts.new) }
 {
-    match certified::count_records(journal) {
-        Ok(found) => {
-            *counts = found.into();
-            *answer = 0;
-            0
-        }
-        Err(why) => c_answers::refuse(why, answer),
+    let counted = certified::count_records(journal);
+    if let Ok(found) = counted {
+        *counts = found.into();
     }
+    c_answers::hand_over(counted.map(|_| 0), answer)
 }

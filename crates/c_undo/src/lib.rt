@@ -1,4 +1,5 @@
 // Take-back for C: the refusal's number as the result, 0 if the call is accepted; the place or the copy's bytes in `answer`.
+// The archive exports the functions of capi alone: the C function stands there and calls this one.
 #![tactic(auto)]
 
 ghost use Rattle.journal.specs.Inputs.{inputs_of};
@@ -7,7 +8,8 @@ ghost use Rattle.certified.specs.Promises.{UndoPromise};
 ghost use Rattle.c_undo.specs.Leaves.{UndoLeaves, undo_result_in};
 
 // Undoes the listed transactions and all that read from them (document 01, take-back). `surviving`, `undone` and `aborted` are
-// written only where it is accepted.
+// written only where it is accepted. They are three pointers in C, so three parameters. By
+// `hand_over`, which has one output, the demand of all four does not prove.
 pub fn undo(
     journal: &[u8],
     table: &mut [i32],

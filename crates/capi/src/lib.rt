@@ -1,5 +1,6 @@
-// The C interface: slices as pointer and length, the refusal's number as the result. The archive has the functions of this crate
-// alone; each calls the one that does the work.
+// The C interface, which has no `Result`: slices as pointer and length, the refusal's number as the result. The archive has the functions of this crate
+// alone; each calls the one that does the work. These stand in crates of their own, since each must-fail edit checks its crate anew, and
+// the gate has to stay short.
 #![tactic(auto)]
 
 ghost use Rattle.std.specs.Prelude.{◌≡◌};

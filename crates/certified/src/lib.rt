@@ -1,5 +1,5 @@
 // The calls with the demands in their contracts: beside the equation of each, what it promises (specs/Promises.antt). The C
-// functions and the report call these.
+// functions and the report call these; the crates below know nothing of the demands.
 #![tactic(auto)]
 
 ghost use Rattle.std.specs.Prelude.{◌≡◌};
@@ -25,7 +25,7 @@ pub fn start(journal: &mut [u8], items: u32) -> Result<(), Reason>
     init::start(journal, items)
 }
 
-// Adds one record (document 01, post). That the item's amount was read says that it is a signed 32-bit number.
+// Adds one record (document 01, post). That the item's amount was read says that it is a signed 32-bit number, for the proof alone.
 pub fn append(
     counts: &mut Counts,
     journal: &mut [u8],

@@ -11,7 +11,7 @@ use lib.ListN.{length, length-append}
 use borrow.Author.Tests.{eqb-true, lt-ltb, le-ltb, ltb-true}
 use Rattle.lists.specs.Search.{any, keep, first, or_else}
 use Rattle.lists.proofs.BoolLaws.{by_cases, clash, and_left, and_right, or-false-left, or-false-right, or_cases}
-use Rattle.lists.proofs.SearchLaws.{first-none, first_some, first-old}
+use Rattle.lists.proofs.SearchLaws.{length-keep, first-none, first_some, first-old}
 use Rattle.format.specs.Layout.{record_at}
 use Rattle.model.specs.History.{Op, History, tx_of, tag_of, tag_in, of_tx, later_of}
 use Rattle.model.proofs.Extension.{Numbered, first-tag}
@@ -153,10 +153,6 @@ module _ (b : List ℕ) (k : Sound b) (s : ℕ) where
   chain-numbers =
       walk-all (count b) (of_tx s) (λ r e. e) (λ t e l r. refl)
       (let a = length-keep (of_tx s) (history b (count b)) in omega (arith, length-history b (count b)))
-    where
-      length-keep : (f : Op → Bool) (p : History) → length (keep f p) ≤ length p
-      length-keep f [] = omega arith
-      length-keep f (r ∷ p) = let ih = length-keep f p in by_cases (f r) (λ e. rw e (omega arith)) (λ e. rw e (omega arith))
 
 pub visits : Visits
 visits b s e = chain-numbers b (decide-sound b e) s

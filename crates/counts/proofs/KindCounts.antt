@@ -1,16 +1,13 @@
 -- The counts by kind of a journal's records.
 -- Assumes nothing.
 use mathlib.Core.Path.{◌≡◌, sym, ◌∙◌}
-use mathlib.Core.Bool.{Bool}
-use mathlib.Core.List.{List, [], ◌∷◌}
+use mathlib.Core.List.{List}
 use Prim.Native.Nat.{ℕ, suc, ◌+◌, ◌≤◌}
 use native.Mathlib.Omega.{arith}
 use native.Mathlib.Numerals.{add-one}
-use lib.ListN.{length}
 use Rattle.std.proofs.lemmas.Grind.{common_steps}
-use Rattle.lists.specs.Search.{keep}
+use Rattle.lists.proofs.SearchLaws.{length-keep}
 use Rattle.format.specs.Layout.{record_at}
-use Rattle.model.specs.History.{Op, History}
 use Rattle.journal.specs.Journal.{history}
 use Rattle.journal.specs.Refusals.{counts_by_kind}
 use Rattle.journal.specs.Calls.{raised}
@@ -18,10 +15,6 @@ use Rattle.journal.proofs.Records.{length-history, history-zero, history-suc}
 use Rattle.journal.proofs.Appending.{counts_by_kind-extended}
 use Rattle.counts.specs.declared.Counts.{Counts}
 use Rattle.counts.specs.Answers.{record_counts_of, Few}
-
-length-keep : (f : Op → Bool) (p : History) → length (keep f p) ≤ length p
-length-keep f [] = omega arith
-length-keep f (r ∷ p) = grind (arith, length-keep f p)
 
 -- the counts of at most 3,200 records can rise
 pub few : (b : List ℕ) (i : ℕ) (c : Counts) → i ≤ 3200 → record_counts_of c ≡ counts_by_kind (history b i) → Few c

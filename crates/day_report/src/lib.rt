@@ -18,8 +18,8 @@ const FILE_AMOUNTS: usize = MAX_JOURNAL_BYTES / i32::WIDTH;
 // The most transactions in a bad-list file.
 const FILE_TRANSACTIONS: usize = MAX_JOURNAL_BYTES / u16::WIDTH;
 
-// The report on a journal, a table file and a bad-list file at the front of `out`, and its length. Nothing is allocated: the arrays hold
-// the entries of the longest files, and a shorter file's stand at the front.
+// The report on a folder's journal, table file and bad-list file at the front of `out`, and its length. Nothing is allocated: the arrays hold
+// the entries of the longest files, and a shorter file's stand at the front. The files are document 01's three, each a parameter.
 fn report(journal: &[u8], table: &[u8], bad: &[u8], out: &mut [u8]) -> usize
     requires table { length table.now ≤ max_journal_bytes }
     requires bad { length bad.now ≤ max_journal_bytes }

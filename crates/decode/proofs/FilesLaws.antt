@@ -2,22 +2,17 @@
 -- Assumes nothing.
 use mathlib.Core.Path.{◌≡◌, refl, sym, ap, ◌∙◌}
 use mathlib.Core.List.{List, [], ◌∷◌, ◌++◌, map}
-use Prim.Native.Nat.{ℕ, zero, suc, ◌/◌, ◌≤◌, ◌<◌, min}
-use native.Mathlib.Nat.{zero-add}
+use Prim.Native.Nat.{ℕ, ◌/◌, ◌≤◌, ◌<◌, min}
 use native.Mathlib.Omega.{arith}
 use lib.ListN.{length, take, drop, get_or}
-use lib.Seq.{ext_get_or, length-take-le}
+use lib.Seq.{length-take-le, take_all, take-length}
 use Rattle.std.proofs.lemmas.List.{length-map, map-id, take_min}
-use Rattle.lists.specs.Tables.{tabulate, store}
-use Rattle.lists.proofs.TablesLaws.{tabulate-zero, tabulate-suc, length-tabulate, get_or-tabulate, store-front}
+use Rattle.lists.specs.Tables.{store}
+use Rattle.lists.proofs.TablesLaws.{tabulate-zero, length-tabulate, filled, map-tabulate, store-front}
 use Rattle.format.specs.Bytes.{entry, entries, amount}
 use Rattle.decode.specs.Files.{amounts, transactions, read_part}
 
 -- ---- the numbers of a file
-
-map-tabulate : {A B : Type 0} (g : A → B) (f : ℕ → A) (i n : ℕ) → map g (tabulate f i n) ≡ tabulate (λ k. g (f k)) i n
-map-tabulate g f i zero = ap (map g) (tabulate-zero f i) ∙ sym (tabulate-zero _ i)
-map-tabulate g f i (suc n) = ap (map g) (tabulate-suc f i n) ∙ ap (λ r. g (f i) ∷ r) (map-tabulate g f (suc i) n) ∙ sym (tabulate-suc _ i n)
 
 module _ {A : Type 0} (f : ℕ → A) (w : ℕ) (file : List ℕ) where
   pub length-numbers : length (map f (entries w file)) ≡ length file / w
@@ -29,10 +24,7 @@ module _ {A : Type 0} (f : ℕ → A) (w : ℕ) (file : List ℕ) where
   unfolding entries
   placed [] e h = rw (← e, tabulate-zero) refl
   placed (x ∷ m) e h =
-      let g : ℕ → A = λ k. f (entry w file k) in
-      ext_get_or x (x ∷ m) _ (e ∙ sym (length-tabulate g 0 (length file / w)))
-      (λ k l. h x k (omega arith) ∙ sym (get_or-tabulate g 0 (length file / w) k x (omega arith) ∙ ap g (zero-add k)))
-      ∙ sym (map-tabulate f (entry w file) 0 (length file / w))
+      filled (λ k. f (entry w file k)) (length file / w) (x ∷ m) x e (h x) ∙ sym (map-tabulate f (entry w file) 0 (length file / w))
 
   -- .. in front of what the list had
   pub numbers-stored : (n i : ℕ) (m l : List A) → n ≡ length file / w → n ≤ length l → length m ≡ length (take n l) → length (take n l) ≤ i
@@ -55,3 +47,12 @@ numbers-transactions file = map-id (entries 2 file)
 pub read_of_min : (file : List ℕ) (n : ℕ) → n ≡ min (length file) 64020 → (n ≤ length file) × (n ≤ 64020) × (take n file ≡ read_part file)
 unfolding read_part
 read_of_min file n e = (omega arith, omega arith, ap (λ k. take k file) (e ∙ omega arith) ∙ take_min 64020 file)
+
+-- all of a short file, and 64,020 bytes of any other
+pub read_of_short : (file : List ℕ) → length file ≤ 64020 → take (length file) file ≡ read_part file
+unfolding read_part
+read_of_short file h = take-length file ∙ sym (take_all 64020 file h)
+
+pub read_part_long : (file : List ℕ) → take 64020 file ≡ read_part file
+unfolding read_part
+read_part_long file = refl

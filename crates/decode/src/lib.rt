@@ -35,7 +35,8 @@ pub fn read_all<T: Wire>(file: &[u8], list: &mut [T]) -> usize
     n
 }
 
-// The record count in a journal's head; 0, if it has none.
+// The record count in a journal's head; 0, if it has none. A report prints it only where take-back is accepted, so where there is a
+// head.
 #[tactic(auto, unfolding(journal::specs::Journal::count))]
 pub fn count_in(journal: &[u8]) -> u64
     ensures { record_bytes ≤ length journal.now → result ≡ count journal.now }
@@ -43,6 +44,6 @@ pub fn count_in(journal: &[u8]) -> u64
     if journal.len() < RECORD_BYTES {
         0
     } else {
-        format::next_at(journal, Lsn(0)).0 as u64
+        u64::from(format::next_at(journal, Lsn(0)).0)
     }
 }

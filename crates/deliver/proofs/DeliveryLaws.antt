@@ -10,7 +10,7 @@ use lib.Dec.{eqb}
 use lib.ListN.{length, get_or}
 use borrow.Author.Tests.{lt-ltb, le-ltb}
 use Rattle.lists.specs.Tables.{count_if, store, coded}
-use Rattle.lists.proofs.TablesLaws.{count_if-ext, store-front}
+use Rattle.lists.proofs.TablesLaws.{filled, count_if-ext, store-front}
 use Rattle.model.specs.History.{Amount, aborted}
 use Rattle.journal.specs.Inputs.{Inputs}
 use Rattle.journal.specs.Journal.{history, whole}
@@ -23,7 +23,7 @@ use Rattle.journal.proofs.OrdersLaws.{decide-yes, decide-no}
 use Rattle.trace.specs.declared.Fate.{Fate}
 use Rattle.trace.specs.declared.Fate.TheVariants.{Neither, Surviving, Undone}
 use Rattle.trace.specs.Codes.{fate_code, fate_codes}
-use Rattle.trace.proofs.CodesLaws.{filled, fate-at, length_codes}
+use Rattle.trace.proofs.CodesLaws.{fate-at, length_codes}
 use Rattle.trace.proofs.Ends.{coded-aborted}
 use Rattle.repair.specs.Copying.{Ranked, copy_with}
 use Rattle.repair.proofs.Repaired.{copy-surviving, copy-size}

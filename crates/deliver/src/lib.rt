@@ -43,7 +43,8 @@ fn totals(ends: &[End], fates: &[Fate], bytes: usize) -> UndoTotals
 
 // What the surviving transactions leave: the copy, at the front of `out`, the table, the statuses and the counts; or refusal 14,
 // which writes nothing. The records are all that the journal has, they passed, and the journal has `keys` items; `ends` and `fates`
-// have the end and the fate of each transaction.
+// have the end and the fate of each transaction. Table, status and `out` are document 01's loans, and any fates can be delivered of the
+// records, so they stand apart.
 pub fn deliver(
     records: &Records,
     keys: u32,

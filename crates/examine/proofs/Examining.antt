@@ -13,17 +13,18 @@ use Rattle.model.specs.History.{Amount, active}
 use Rattle.journal.specs.Inputs.{inputs_of}
 use Rattle.journal.specs.declared.Reason.{Reason}
 use Rattle.journal.specs.Reasons.{number_of, place_of}
-use Rattle.journal.specs.Journal.{count, items, history, whole}
-use Rattle.journal.specs.Refusals.{wrong_table, still_active, wrong_status}
-use Rattle.journal.specs.Orders.{Refusal, open_order, table_order, records_order, active_order, known_order, status_order, check_order, decide}
+use Rattle.journal.specs.Journal.{count, history, whole}
+use Rattle.journal.specs.Refusals.{still_active, wrong_status}
+use Rattle.journal.specs.Orders.{Refusal, open_order, active_order, known_order, status_order, check_order, decide}
 use Rattle.journal.specs.Calls.{refused, accepted, answered}
 use Rattle.journal.specs.Outcomes.{refusal_of, answer_of, refusal_in}
-use Rattle.journal.proofs.OrdersLaws.{decide-yes, decide-no, decide-one, decide-turn, decide-turn-none, decide-turn-some, try_each-ext}
+use Rattle.journal.proofs.OrdersLaws.{decide-yes, decide-no, decide-one, decide-turn, decide-over, decide-turn-none, decide-turn-some, or_else-none, or_else-assoc, try_each-ext}
 use Rattle.journal.proofs.Answered.{accepted-only, refused-only}
 use Rattle.fields.specs.declared.head.Journal.{Journal}
 use Rattle.fields.specs.Answers.{Size, size_of}
 use Rattle.fields.specs.Heads.{size}
 use Rattle.arrays.specs.declared.pass.Passed.{Passed}
+use Rattle.validate.specs.Verified.{tabled_order}
 use Rattle.examine.specs.Stages.{unknown_in, admit_order, examined_order, ended_order, unsettled_order}
 
 -- ---- what decides is the answer
@@ -59,38 +60,22 @@ module _ (b : List ℕ) (t : List Amount) where
 
   -- ---- the same without 10
 
-  unsettled-parts : decide (unsettled_order (inputs_of b t))
-      ≡ or_else (decide (open_order b)) (or_else (decide (table_order (inputs_of b t))) (or_else (decide (records_order b)) (decide (active_order (still_active b)))))
-  unfolding unsettled_order ended_order
-  unsettled-parts =
-      decide-turn (open_order b) (table_order (inputs_of b t) ∷ ended_order b ∷ [])
-      ∙ ap (or_else (decide (open_order b))) (decide-turn (table_order (inputs_of b t)) (ended_order b ∷ [])
-      ∙ ap (or_else (decide (table_order (inputs_of b t)))) (decide-one (ended_order b) ∙ decide-turn (records_order b) (active_order (still_active b) ∷ [])
-      ∙ ap (or_else (decide (records_order b))) (decide-one (active_order (still_active b)))))
+  unsettled-parts : decide (unsettled_order (inputs_of b t)) ≡ or_else (decide (open_order b)) (or_else (decide (tabled_order (inputs_of b t))) (decide (active_order (still_active b))))
+  unfolding unsettled_order ended_order tabled_order
+  unsettled-parts = simp (decide-turn, decide-over, or_else-none, or_else-assoc)
 
   pub unsettled_head : (why : Reason) → refused (number_of why) (place_of why) ≡ answered (decide (open_order b)) (size_of b) → some (refusal_of why) ≡ decide (unsettled_order (inputs_of b t))
   unsettled_head why q = rw (unsettled-parts, refused-only (number_of why) (place_of why) (decide (open_order b)) (size_of b) q)
 
-  module _ (s : Size) (q : accepted s ≡ answered (decide (open_order b)) (size_of b)) (m : ℕ) (k : m ≡ items b) where
+  module _ (s : Size) (q : accepted s ≡ answered (decide (open_order b)) (size_of b)) where
     opens : decide (open_order b) ≡ none
     opens = (accepted-only (decide (open_order b)) s (size_of b) q).0
 
-    pub unsettled_table : (length t ≡ m → ⊥) → some (record { number = 3; place = 0 }) ≡ decide (unsettled_order (inputs_of b t))
-    unfolding table_order wrong_table
-    unsettled_table z =
-        let w = ap not (ne_eqb (length t) (items b) (λ y. z (y ∙ sym k))) in
-        rw (unsettled-parts, opens, decide-yes 3 0 w)
+    pub unsettled_early : (f : Refusal) → some f ≡ decide (tabled_order (inputs_of b t)) → some f ≡ decide (unsettled_order (inputs_of b t))
+    unsettled_early f g = rw (unsettled-parts, opens, ← g)
 
-    module _ (z : length t ≡ m) where
-      rest : decide (unsettled_order (inputs_of b t)) ≡ or_else (decide (records_order b)) (decide (active_order (still_active b)))
-      unfolding table_order wrong_table
-      rest = let w = ap not (eq-eqb (length t) (items b) (z ∙ k)) in rw (unsettled-parts, opens, decide-no 3 0 w)
-
-      pub unsettled_records : (f : Refusal) → some f ≡ decide (records_order b) → some f ≡ decide (unsettled_order (inputs_of b t))
-      unsettled_records f g = rw (rest, ← g)
-
-      pub unsettled_late : (n : ℕ) (v : Option Refusal) → none ≡ decide (records_order b) → n ≡ count b → v ≡ decide (active_order (active (history b n))) → v ≡ decide (unsettled_order (inputs_of b t))
-      unsettled_late n v r c g = rw (rest, ← r, ← active-whole n c) g
+    pub unsettled_late : (n : ℕ) (v : Option Refusal) → none ≡ decide (tabled_order (inputs_of b t)) → n ≡ count b → v ≡ decide (active_order (active (history b n))) → v ≡ decide (unsettled_order (inputs_of b t))
+    unsettled_late n v r c g = rw (unsettled-parts, opens, ← r, ← active-whole n c) g
 
 -- ---- 13, then 12
 

@@ -1,13 +1,14 @@
 -- Refusals 11 and 12: what one step of the loop over the places decides.
 -- Assumes nothing.
-use mathlib.Core.Path.{◌≡◌, refl, sym, ◌∙◌}
-use mathlib.Core.Bool.{Bool, true, false}
+use mathlib.Core.Path.{◌≡◌, refl, sym, ◌∙◌, ap}
+use mathlib.Core.Bool.{Bool, true, false, not}
 use mathlib.Core.List.{List}
 use mathlib.Core.Logic.{◌⊎◌, inl, inr}
 use mathlib.Core.Option.{Option, some}
 use Prim.Native.Nat.{ℕ, ◌+◌, ◌-◌, ◌<◌}
 use lib.Dec.{eqb}
 use lib.ListN.{length, get_or}
+use borrow.Author.Tests.{ne_eqb}
 use Rattle.journal.specs.Orders.{Refusal, try_each, active_order, known_order, decide}
 use Rattle.journal.proofs.OrdersLaws.{tried-start, tried-passed, tried-refused}
 use Rattle.arrays.specs.declared.end.End.{End}
@@ -37,6 +38,14 @@ module _ (f : ℕ → Bool) where
 abbrev pub unknown_at : List ℕ → List ℕ → ℕ → Bool
 unknown_at ends bad k = unknown_in ends (get_or bad k 0)
 
+-- an end that is no commit is refused
+module _ (ends bad : List ℕ) where
+  module _ (k : ℕ) (d : Option Refusal) (e : d ≡ decide (try_each 12 (unknown_at ends bad) k (length bad - k))) (h : k < length bad) (end : ℕ) (b : end ≡ get_or ends (get_or bad k 0) 0) where
+    pub known_refused : (end ≡ 1 → ⊥) → some (record { number = 12; place = k }) ≡ d
+    unfolding unknown_in coded
+    known_refused z =
+        tried-refused 12 (unknown_at ends bad) k (length bad) d e h (ap not (ne_eqb (get_or ends (get_or bad k 0) 0) 1 (λ q. z (b ∙ q))))
+
 module _ (ends : List End) (bad : List ℕ) where
   pub known_start : decide (known_order (unknown_in (codes ends)) bad) ≡ decide (try_each 12 (unknown_at (codes ends) bad) 0 (length bad - 0))
   unfolding known_order
@@ -52,7 +61,7 @@ module _ (ends : List End) (bad : List ℕ) where
       unfolding unknown_in
       known-passed z = tried-passed 12 (unknown_at (codes ends) bad) k (length bad) d e h (rw (known-at, z))
 
-      pub known_refused : (end ≡ Open) ⊎ (end ≡ Aborted) → some (record { number = 12; place = k }) ≡ d
+      pub known_open : (end ≡ Open) ⊎ (end ≡ Aborted) → some (record { number = 12; place = k }) ≡ d
       unfolding unknown_in
-      known_refused (inl z) = tried-refused 12 (unknown_at (codes ends) bad) k (length bad) d e h (rw (known-at, z))
-      known_refused (inr z) = tried-refused 12 (unknown_at (codes ends) bad) k (length bad) d e h (rw (known-at, z))
+      known_open (inl z) = tried-refused 12 (unknown_at (codes ends) bad) k (length bad) d e h (rw (known-at, z))
+      known_open (inr z) = tried-refused 12 (unknown_at (codes ends) bad) k (length bad) d e h (rw (known-at, z))

@@ -19,16 +19,15 @@ use fields::header;
 use format::{STATUS_BYTES, TRANSACTIONS_END, TransactionId};
 use journal::Reason;
 use lists::at;
-use scan::records;
 use settle::is_active;
-use validate::verify;
+use validate::{verify_opened, verify_records};
 
 // Refusal 11: the lowest transaction that is active.
 fn finished(pass: &Pass) -> Result<(), Reason>
     ensures { refusal_in result ≡ decide (active_order (active (past pass.now))) }
 {
     for s in 1..TRANSACTIONS_END {
-        if is_active(pass, TransactionId(s)) {
+        if is_active(&pass.ends, &pass.firsts, TransactionId(s)) {
             return Err(Reason::Active(TransactionId(s)));
         }
     }
@@ -56,21 +55,19 @@ pub fn examine<'j>(journal: &'j [u8], table: &[i32]) -> Result<Passed<'j>, Reaso
     ensures bytes { IfOk result (λ p. p.journal.bytes.now ≡ journal.now) }
 {
     let mut pass = Pass::new(header(journal)?);
-    verify(&mut pass, table)?;
+    verify_opened(&mut pass, table)?;
     closed(&pass)
 }
 
 // The same without refusal 10: the amounts of the table may be any.
+// In one function with `examine`, rule 10 would be a flag.
 pub fn examine_unsettled<'j>(journal: &'j [u8], table: &[i32]) -> Result<Passed<'j>, Reason>
     ensures answer { answer_of (λ p. size p.journal) result
         ≡ answered (decide (unsettled_order (inputs_of journal.now table.now))) (size_of journal.now) }
     ensures bytes { IfOk result (λ p. p.journal.bytes.now ≡ journal.now) }
 {
     let mut pass = Pass::new(header(journal)?);
-    if table.len() != pass.journal.items as usize {
-        return Err(Reason::TableLength);
-    }
-    records(&mut pass)?;
+    verify_records(&mut pass, table)?;
     closed(&pass)
 }
 

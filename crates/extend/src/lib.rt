@@ -1,4 +1,5 @@
-// One record more, written: the record, the chain, the record count, the table and the counts by kind.
+// One record more, written: the record, the chain, the record count, the table and the counts by kind. The journal is lent to be
+// written, so its bytes and its record count stand apart, and no `Records` can hold them.
 #![tactic(auto)]
 
 ghost use Rattle.std.specs.Prelude.{◌≡◌, false, ◌+◌, ◌≤◌, ◌<◌, length, IfSome};
@@ -68,8 +69,10 @@ fn undo_write(journal: &[u8], i: Lsn, s: TransactionId, table: &mut [i32])
     ensures { table.new ≡ restored_by s.0 (record_at journal.now i.0) table.old }
 {
     let r = record_at(journal, i);
-    if r.kind == Kind::Write as u8 && r.transaction == s {
-        table[r.item.index()] = r.before;
+    if let Ok(Kind::Write) = Kind::try_from(r.kind) {
+        if r.transaction == s {
+            table[r.item.index()] = r.before;
+        }
     }
 }
 

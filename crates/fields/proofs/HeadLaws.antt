@@ -13,16 +13,10 @@ use Rattle.format.specs.Layout.{record_at}
 use Rattle.journal.specs.Journal.{count, items}
 use Rattle.journal.specs.Refusals.{head_right, truncated, bad_head}
 use Rattle.journal.specs.Orders.{decide, open_order}
-use Rattle.journal.specs.Calls.{answered}
 use Rattle.journal.proofs.Clear.{decide-clear}
 use Rattle.journal.proofs.Checked.{clear-opens}
-use Rattle.journal.proofs.Answered.{accepted-only}
-use Rattle.journal.specs.Calls.{answered}
-use Rattle.journal.proofs.Answered.{accepted-only}
-use Rattle.fields.specs.declared.Headed.{Headed}
-use Rattle.fields.specs.declared.Headed.TheVariants as headed
-use Rattle.fields.specs.Answers.{Size, size_of, Opened}
-use Rattle.fields.specs.Heads.{header_of}
+use Rattle.fields.specs.declared.head.Journal.{Journal}
+use Rattle.fields.specs.Answers.{Opened}
 use Rattle.fields.proofs.Fields.{head-counts}
 
 module _ (b : List ℕ) where
@@ -41,10 +35,6 @@ module _ (b : List ℕ) where
       let (n, s, u) = head-counts r (sym f ∙ g) in
       record { counted = ap (λ r. r.next.0) e; keys = ap (λ r. r.item.0) e; long = l; few = n; some = s; narrow = u }
 
-module _ (b : List ℕ) (h : Headed) (q : header_of h ≡ answered (decide (open_order b)) (size_of b)) where
-  module _ (n m : ℕ) (e : h ≡ headed.Size n m) where
-    pub header-parts : (decide (open_order b) ≡ none) × (◌≡◌ {A = Size} (record { records = n; items = m }) (size_of b))
-    header-parts = accepted-only _ _ _ (sym (ap header_of e) ∙ q)
-
-    pub header-opened : Opened b n m
-    header-opened = let a : n ≡ count b = ap (λ s. s.records) header-parts.1 in let c : m ≡ items b = ap (λ s. s.items) header-parts.1 in rw (a, c) (head_opened b header-parts.0)
+-- a number is the bytes' record count, where it is that of the journal opened of them
+pub opened-count : (n : ℕ) (p q : Journal) (b : List ℕ) → n ≡ p.records → p ≡ q → q.bytes.now ≡ b → n ≡ count b
+opened-count n p q b v j h = v ∙ ap (λ j. j.records) j ∙ q.opened.counted ∙ ap count h

@@ -8,27 +8,13 @@ ghost use Rattle.journal.specs.Orders.{decide, open_order};
 ghost use Rattle.journal.specs.Calls.{answered};
 ghost use Rattle.journal.specs.Outcomes.{answer_of};
 ghost use Rattle.fields.specs.Answers.{size_of};
-ghost use Rattle.fields.specs.Heads.{size, header_of};
+ghost use Rattle.fields.specs.Heads.{size};
 
 mod head;
 
-use format::{Lsn, MAX_ITEMS, MAX_RECORDS, MAX_TRANSACTION, RECORD_BYTES, Record, record_at};
+use format::{Kind, Lsn, MAX_ITEMS, MAX_RECORDS, MAX_TRANSACTION, RECORD_BYTES, Record, record_at};
 pub use head::Journal;
 use journal::Reason;
-
-// The head's record count and item count.
-#[derive(Clone, Copy)]
-pub enum Headed {
-    Size(u32, u32),
-    Refused(Reason),
-}
-
-// Two amounts are the same.
-pub fn same(a: i32, b: i32) -> bool
-    ensures { result ≡ same_amount a b }
-{
-    a == b
-}
 
 // Before and after are 0.
 fn no_amounts(r: Record) -> bool
@@ -41,13 +27,10 @@ fn no_amounts(r: Record) -> bool
 fn head_right(r: Record) -> bool
     ensures { result ≡ head_right r }
 {
-    r.kind == 0
-        && r.reserved == 0
-        && r.transaction.0 == 0
+    r == Record::head(r.next.0, r.item.0)
         && r.next.0 <= MAX_RECORDS
         && 1 <= r.item.0
         && r.item.0 <= MAX_ITEMS
-        && no_amounts(r)
 }
 
 // The journal with its record count and item count, or refusal 1 or 2.
@@ -73,29 +56,20 @@ pub fn header(journal: &[u8]) -> Result<Journal<'_>, Reason>
     })
 }
 
-// The same as numbers.
-pub fn head_size(journal: &[u8]) -> Headed
-    ensures { header_of result ≡ answered (decide (open_order journal.now)) (size_of journal.now) }
-{
-    match header(journal) {
-        Ok(j) => Headed::Size(j.records, j.items),
-        Err(why) => Headed::Refused(why),
-    }
-}
-
-// The item and the amounts of a record, by its kind.
+// The item and the amounts of a record, by its kind; no record has another kind.
 fn body_right(items: u32, r: Record) -> bool
     ensures { result ≡ body_right items r }
 {
-    match r.kind {
-        1 => r.item.0 < items && no_amounts(r),
-        2 => r.item.0 < items,
-        3 | 4 => r.item.0 == 0 && no_amounts(r),
-        _ => false,
+    match Kind::try_from(r.kind) {
+        Ok(Kind::Read) => r.item.0 < items && no_amounts(r),
+        Ok(Kind::Write) => r.item.0 < items,
+        Ok(Kind::Commit | Kind::Abort) => r.item.0 == 0 && no_amounts(r),
+        Err(_) => false,
     }
 }
 
-// Rule 4: the fields of a record but next, by its kind; `items` is the item count.
+// Rule 4: the fields of a record but next, by its kind; `items` is the item count. It differs from journal to journal, so that a record
+// is formed is a clause and no type.
 #[tactic(auto, unfolding(journal::specs::Refusals::malformed))]
 pub fn formed(items: u32, r: Record) -> bool
     ensures { result ≡ not (malformed items r) }

@@ -56,6 +56,7 @@ fn read_front<F: Read>(file: &mut F, buf: &mut [u8]) -> io::Result<usize>
     ensures bytes { ReadsFront (F.remaining file.old) (F.remaining file.new) result buf.new }
 {
     let mut done = 0;
+    // No index is counted: this goes on until the buffer is full or the file ends.
     while done < buf.len() {
         let n = read_some(file, &mut buf[done..])?;
         if n == 0 {
@@ -92,7 +93,8 @@ fn load(rt: &(impl Files + Eprint), path: &[u8], buf: &mut [u8]) -> Option<usize
     }
 }
 
-// The same of a file in a folder. A folder's name of over 4,000 bytes is not taken.
+// The same of a file in a folder. A folder's name of over 4,000 bytes is not taken. The path is put together in an array, since std's
+// `join` allocates.
 fn load_from(
     rt: &(impl Files + Eprint),
     folder: &[u8],
@@ -134,6 +136,7 @@ fn print(rt: &(impl Print + Eprint), journal: &[u8], table: &[u8], bad: &[u8]) {
 // Prints the report on the three files of the folder. Where one is there and cannot be read, or the folder's name is too long or is
 // not UTF-8, only a message on standard error is printed.
 pub fn print_report(rt: &(impl Files + Print + Eprint), folder: &[u8]) {
+    // No heap: each file has an array for the longest, and a count of the bytes that are filled.
     let mut journal = [0u8; FILE_BYTES];
     let Some(j) = load_from(rt, folder, b"journal.bin", &mut journal) else {
         return;

@@ -2,20 +2,20 @@
 -- Assumes nothing.
 use mathlib.Core.Path.{◌≡◌, refl, sym, ap, ◌∙◌}
 use mathlib.Core.List.{List, [], ◌∷◌, ◌++◌, append_assoc, flat_map}
-use Prim.Native.Nat.{ℕ, zero, suc, ◌+◌, ◌*◌, ◌/◌, ◌%◌, ◌^◌, ◌≤◌, ◌<◌}
+use Prim.Native.Nat.{ℕ, zero, suc, ◌+◌, ◌*◌, ◌/◌, ◌%◌, ◌^◌, ◌<◌}
 use native.Mathlib.Nat.{div-eq_of_lt, add-div_left, mul-suc, mul-zero, div-one, div-div-eq-div-mul, pow-suc, pow-succ', mul_left_comm}
-use native.Mathlib.Numerals.{add-one, add-two, add-three}
 use native.Mathlib.Omega.{arith, pow_step}
 use lib.IntN.{ℤ}
-use lib.ListN.{length, take, drop, get_or, length-append, set}
+use lib.ListN.{length, take, drop, get_or, length-append}
 use lib.Seq.{take_at, drop_at, drop-drop, take-nil}
+use borrow.Rule.Slice.PartMut.{put_mid}
 use mir.Syntax.{w32}
 use mir.Val.{SFits}
 use mir.ValLaws as vals
 use Rattle.std.proofs.lemmas.List.{get_or-drop}
 use Rattle.std.specs.Int.{byte_at, byte_worth, bytes_low_first, sum_through}
 use Rattle.lists.specs.Tables.{store}
-use Rattle.lists.proofs.TablesLaws.{tabulate-zero, tabulate-suc, tabulate-ext, sets-store}
+use Rattle.lists.proofs.TablesLaws.{tabulate-zero, tabulate-suc, tabulate-ext, part-stored}
 use Rattle.format.specs.Bytes.{Bytes, none, byte, value, bytes, entry, entries, amount, bits}
 
 -- ---- lists of bytes
@@ -131,8 +131,12 @@ low_first i (suc w) n =
     first zero = ap (λ k. k % 256) (sym (div-one n))
     first (suc i) = refl
 
-pub listed : (w n : ℕ) → bytes_low_first 0 w n ≡ bytes w n
+listed : (w n : ℕ) → bytes_low_first 0 w n ≡ bytes w n
 listed w n = low_first 0 w n ∙ ap (bytes w) (div-one n)
+
+-- the bytes of a number put in a lent part
+pub written : (w x at n : ℕ) (b l : List ℕ) → length b ≡ n → b ≡ bytes_low_first 0 w x → put_mid at n l b ≡ store at (bytes w x) l
+written w x at n b l e q = part-stored at n b l e ∙ ap (λ v. store at v l) (q ∙ listed w x)
 
 -- ---- entries
 

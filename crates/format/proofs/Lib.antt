@@ -1,3 +1,2 @@
 pub mod BytesLaws
 pub mod LayoutLaws
-pub mod Twos

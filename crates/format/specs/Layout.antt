@@ -1,6 +1,6 @@
 -- The layout of a record: seven fields in 20 bytes. Reading, writing and the round trip follow from the one list of widths.
 -- Document 01, "The journal", the table. Assumes nothing.
-use Rattle.std.specs.Prelude.{List, [], ◌∷◌, ◌++◌, ℕ, ◌*◌, ◌<◌, take, drop, get_or}
+use Rattle.std.specs.Prelude.{List, [], ◌∷◌, ◌++◌, ℕ, ◌*◌, ◌<◌, pos, take, drop, get_or}
 use Rattle.std.specs.Int.{w32}
 use Rattle.std.proofs.Common.{SFits}
 use Rattle.format.specs.declared.Record.{Record}
@@ -49,6 +49,19 @@ bytes_of r = printed layout (fields r)
 -- record i of a journal; record 0 is the head
 unfoldable pub record_at : List ℕ → ℕ → Record
 record_at b i = record_of (take record_bytes (drop (record_bytes * i) b))
+
+-- the head of a journal of n records and m items
+abbrev pub head_with : ℕ → ℕ → Record
+head_with n m =
+    record {
+      kind = 0;
+      reserved = 0;
+      transaction = record { 0 = 0 };
+      next = record { 0 = n };
+      item = record { 0 = m };
+      before = pos 0;
+      after = pos 0;
+    }
 
 -- each field fits its bytes
 pub record Fitting (r : Record) : Type 0 where

@@ -5,7 +5,7 @@ ghost use Rattle.std.specs.Prelude.{◌≡◌, ℕ, ◌+◌, ◌*◌, ◌≤◌,
 ghost use Rattle.std.proofs.Common.{rules};
 ghost use Rattle.lists.specs.Tables.{store};
 ghost use Rattle.format.specs.Bytes.{value, bytes, amount, bits};
-ghost use Rattle.format.specs.Layout.{record_at, bytes_of};
+ghost use Rattle.format.specs.Layout.{record_at, bytes_of, head_with};
 ghost use Rattle.format.specs.Limits.{record_bytes, journal_bytes};
 ghost use Rattle.format.specs.Kinds.{Decodes};
 
@@ -23,24 +23,19 @@ pub const MAX_TRANSACTION: u16 = 1024;
 // The number behind the last transaction's, where a loop over them ends.
 pub const TRANSACTIONS_END: u16 = MAX_TRANSACTION + 1;
 
-// The same where they bound an index.
-pub const LAST_RECORD: usize = MAX_RECORDS as usize;
-
-pub const LAST_TRANSACTION: usize = MAX_TRANSACTION as usize;
-
 // Entries of an array by record number, by item, by transaction number; the bytes of a status list and of the longest journal.
-pub const RECORD_SLOTS: usize = LAST_RECORD + 1;
+pub const RECORD_SLOTS: usize = MAX_RECORDS as usize + 1;
 
 pub const ITEM_SLOTS: usize = MAX_ITEMS as usize;
 
-pub const TRANSACTION_SLOTS: usize = LAST_TRANSACTION + 1;
+pub const TRANSACTION_SLOTS: usize = MAX_TRANSACTION as usize + 1;
 
 pub const STATUS_BYTES: usize = TRANSACTION_SLOTS;
 
 pub const MAX_JOURNAL_BYTES: usize = RECORD_BYTES * RECORD_SLOTS;
 
 // The three numberings of document 01: record numbers (log sequence numbers), sale numbers (transaction ids) and item numbers
-// (keys).
+// (keys). A record's bytes can hold any number, so that one is within an array is asked where the array is indexed.
 #[derive(Clone, Copy, Debug, PartialEq, Eq)]
 pub struct Lsn(pub u32);
 
@@ -77,7 +72,8 @@ impl Number for Key {
     }
 }
 
-// The kinds of records (01, "The journal"). A record holds the code as a byte, which may be of no kind: rule 4 refuses it then.
+// The kinds of records (01, "The journal"). A record holds the code as a byte, which may be of no kind: rule 4 refuses it then. Its
+// fields `next` and `item` are numbers that may be of nothing as well, and a `next` of 0 ends a chain.
 #[derive(Clone, Copy, Debug, PartialEq, Eq)]
 pub enum Kind {
     Read = 1,
@@ -118,7 +114,25 @@ pub struct Record {
     pub after: i32,
 }
 
-// A number that stands in WIDTH bytes, lowest first.
+impl Record {
+    // The head of a journal with these numbers of records and items. Its kind is 0, which is no record's, so `Kind` has no name for it.
+    pub fn head(records: u32, items: u32) -> Record
+        ensures { result ≡ head_with records items }
+    {
+        Record {
+            kind: 0,
+            reserved: 0,
+            transaction: TransactionId(0),
+            next: Lsn(records),
+            item: Key(items),
+            before: 0,
+            after: 0,
+        }
+    }
+}
+
+// A number that stands in WIDTH bytes, lowest first. std's bytes of a number are an array whose length differs by its type, which the
+// trait could not name, so each type has its own `read` and `write`.
 pub trait Wire: Copy {
     ghost WIDTH: { ℕ };
 
@@ -154,6 +168,7 @@ impl Wire for u16 {
         u16::from_le_bytes([s[at], s[at + 1]])
     }
 
+    #[tactic(auto, using(crate::proofs::BytesLaws::written))]
     fn write(self, out: &mut [u8], at: usize) {
         let b = self.to_le_bytes();
         out[at..at + 2].copy_from_slice(&b);
@@ -175,6 +190,7 @@ impl Wire for u32 {
         u32::from_le_bytes([s[at], s[at + 1], s[at + 2], s[at + 3]])
     }
 
+    #[tactic(auto, using(crate::proofs::BytesLaws::written))]
     fn write(self, out: &mut [u8], at: usize) {
         let b = self.to_le_bytes();
         out[at..at + 4].copy_from_slice(&b);
@@ -203,12 +219,12 @@ impl Wire for i32 {
     ghost some_bytes = { Prim.search rules };
 }
 
-// Record i of a journal.
+// Record i of a journal. That the bytes reach it is a clause: of which i it is known differs with the caller.
 pub fn record_at(journal: &[u8], i: Lsn) -> Record
     requires { journal_bytes i.0 ≤ length journal.now }
     ensures { result ≡ record_at journal.now i.0 }
 {
-    let at = RECORD_BYTES * i.0 as usize;
+    let at = RECORD_BYTES * i.index();
     Record {
         kind: journal[at],
         reserved: journal[at + 1],
@@ -220,13 +236,13 @@ pub fn record_at(journal: &[u8], i: Lsn) -> Record
     }
 }
 
-// The fields of record i, one at a time.
+// The fields of record i, one at a time. A function for any field would take the offset from its caller, who could take another's.
 #[tactic(auto, using(crate::proofs::LayoutLaws::kind_at))]
 pub fn kind_at(journal: &[u8], i: Lsn) -> u8
     requires { journal_bytes i.0 ≤ length journal.now }
     ensures { result ≡ (record_at journal.now i.0).kind }
 {
-    journal[RECORD_BYTES * i.0 as usize]
+    journal[RECORD_BYTES * i.index()]
 }
 
 #[tactic(auto, using(crate::proofs::LayoutLaws::transaction_at))]
@@ -234,7 +250,7 @@ pub fn transaction_at(journal: &[u8], i: Lsn) -> TransactionId
     requires { journal_bytes i.0 ≤ length journal.now }
     ensures { result.0 ≡ (record_at journal.now i.0).transaction.0 }
 {
-    TransactionId(u16::read(journal, RECORD_BYTES * i.0 as usize + 2))
+    TransactionId(u16::read(journal, RECORD_BYTES * i.index() + 2))
 }
 
 #[tactic(auto, using(crate::proofs::LayoutLaws::next_at))]
@@ -242,7 +258,7 @@ pub fn next_at(journal: &[u8], i: Lsn) -> Lsn
     requires { journal_bytes i.0 ≤ length journal.now }
     ensures { result.0 ≡ (record_at journal.now i.0).next.0 }
 {
-    Lsn(u32::read(journal, RECORD_BYTES * i.0 as usize + 4))
+    Lsn(u32::read(journal, RECORD_BYTES * i.index() + 4))
 }
 
 // Writes the 20 bytes of a record.

@@ -1,24 +1,12 @@
 -- The bytes of journals written: a head, records in order, and the copy.
 -- Document 01, "The rules of taking back". Assumes nothing.
-use Rattle.std.specs.Prelude.{Bool, cond, List, [], ◌∷◌, ◌++◌, ℕ, suc, pos, length}
+use Rattle.std.specs.Prelude.{Bool, cond, List, [], ◌∷◌, ◌++◌, ℕ, suc, length}
 use Rattle.format.specs.declared.Record.{Record}
 use Rattle.format.specs.Layout.{bytes_of}
+pub use Rattle.format.specs.Layout.{head_with}
 use Rattle.model.specs.History.{History, next_in}
 use Rattle.model.specs.Undo.{is_source, surviving, only, renumber}
 use Rattle.journal.specs.Journal.{count, items, tx_in, records, whole}
-
--- the head of a journal of n records and m items
-abbrev pub head_with : ℕ → ℕ → Record
-head_with n m =
-    record {
-      kind = 0;
-      reserved = 0;
-      transaction = record { 0 = 0 };
-      next = record { 0 = n };
-      item = record { 0 = m };
-      before = pos 0;
-      after = pos 0;
-    }
 
 -- the record with another next, all other fields unchanged
 abbrev pub linked_to : ℕ → Record → Record

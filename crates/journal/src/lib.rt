@@ -52,26 +52,18 @@ impl Reason {
         }
     }
 
-    // Its place: a record, an item, a transaction, a list position, or 0.
+    // Its place: a record, an item, a transaction, a list position, or 0. A reason is two numbers, so neither of them is a `From`.
     pub fn place(self) -> u64
         ensures { result ≡ place_of self }
     {
         match self {
-            Reason::Truncated => 0,
-            Reason::Header => 0,
-            Reason::TableLength => 0,
-            Reason::Malformed(i) => i.0 as u64,
-            Reason::Chain(i) => i.0 as u64,
-            Reason::Closed(i) => i.0 as u64,
-            Reason::Conflict(i) => i.0 as u64,
-            Reason::Blind(i) => i.0 as u64,
-            Reason::BeforeImage(i) => i.0 as u64,
-            Reason::FinalState(x) => x.0 as u64,
-            Reason::Active(s) => s.0 as u64,
+            Reason::Truncated | Reason::Header | Reason::TableLength => 0,
+            Reason::Malformed(i) | Reason::Chain(i) | Reason::Closed(i) => u64::from(i.0),
+            Reason::Conflict(i) | Reason::Blind(i) | Reason::BeforeImage(i) => u64::from(i.0),
+            Reason::FinalState(x) => u64::from(x.0),
+            Reason::Active(s) => u64::from(s.0),
             Reason::Unknown(k) => k as u64,
-            Reason::StatusLength => 0,
-            Reason::Capacity => 0,
-            Reason::Counts => 0,
+            Reason::StatusLength | Reason::Capacity | Reason::Counts => 0,
         }
     }
 }

@@ -7,6 +7,11 @@ use Rattle.std.proofs.lemmas.Int.{to_z-of_z}
 use Rattle.lists.proofs.BoolLaws.{by_cases}
 use Rattle.model.specs.History.{Amount, same_amount}
 use Rattle.model.proofs.Amounts.{same_refl, same-eq}
+use lib.ListN.{get_or}
+use borrow.Author.Tests.{eq-eqb}
+use Rattle.lines.specs.AnswerLines.{undone_in}
+use Rattle.text.specs.Lines.{undone_line}
+use Rattle.text.specs.Puts.{Fits}
 use Rattle.text.specs.declared.Page.{Page}
 use Rattle.text.specs.Pages.{HasRoom, Writes}
 use Rattle.text.proofs.PutsLaws.{writes-none, room-front, room-behind, writes-behind}
@@ -41,3 +46,13 @@ same_amount-no a b n = by_cases (same_amount a b) (λ e. absurd (n (same-eq a b 
 
 -- what writes a line, or none
 pub ruleset line_steps = (same_amount-yes, same_amount-no, to_z-of_z, writes-none)
+
+-- ---- the line of a transaction that was undone
+
+pub undone_in-yes : (status : List ℕ) (s : ℕ) → get_or status s 0 ≡ 2 → undone_in status s ≡ undone_line s
+unfolding undone_in
+undone_in-yes status s e = rw (eq-eqb _ _ e)
+
+-- room for the line, where there is one
+pub marked_room : (status : List ℕ) (s at : ℕ) (l : List ℕ) → get_or status s 0 ≡ 2 → Fits at (undone_in status s) l → Fits at (undone_line s) l
+marked_room status s at l e f = rw (undone_in-yes status s e) at f

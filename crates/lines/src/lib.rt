@@ -16,6 +16,7 @@ use text::Page;
 use trace::Fate;
 
 // The line of transaction s, if its status is 2 (document 01: mark 2, taken back).
+// The list is lent as bytes, document 01's format, so the mark is told on the byte.
 #[tactic(auto, unfolding(crate::specs::AnswerLines::undone_in), using(crate::proofs::AnswerLinesLaws::line_steps))]
 fn put_undone_in(page: &mut Page, status: &[u8], s: TransactionId)
     requires known { s.0 < length status.now }

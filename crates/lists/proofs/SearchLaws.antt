@@ -4,6 +4,9 @@ use mathlib.Core.Path.{◌≡◌, refl, sym, ◌∙◌}
 use mathlib.Core.Bool.{Bool, true, false, false≢true}
 use mathlib.Core.List.{List, [], ◌∷◌}
 use mathlib.Core.Option.{none, some, none-ne-some}
+use Prim.Native.Nat.{◌≤◌}
+use native.Mathlib.Omega.{arith}
+use lib.ListN.{length}
 use Rattle.std.proofs.lemmas.Bool.{or_left, or_right}
 use Rattle.lists.specs.Search.{any, keep, latest, first}
 use Rattle.lists.proofs.BoolLaws.{by_cases, or_cases, or-false-left, or-false-right, clash}
@@ -45,6 +48,10 @@ module _ {A : Type 0} where
       (λ e. simp (e, keep-keep k k' h p))
       (λ e. by_cases (k' r) (λ e'. let z = h r e' in absurd (false≢true (sym e ∙ z))) (λ e'. simp (e, e', keep-keep k k' h p)))
 
+  pub length-keep : (f : A → Bool) (p : List A) → length (keep f p) ≤ length p
+  length-keep f [] = omega arith
+  length-keep f (r ∷ p) = grind (arith, length-keep f p)
+
   pub any-mono : (f g : A → Bool) → ((r : A) → f r ≡ true → g r ≡ true) → (p : List A) → any f p ≡ true → any g p ≡ true
   any-mono f g h [] e = e
   any-mono f g h (r ∷ p) e = or_cases (f r) (any f p) e (λ i. or_left (g r) _ (h r i)) (λ i. or_right (g r) _ (any-mono f g h p i))
@@ -59,6 +66,13 @@ module _ {A : Type 0} where
       by_cases (any f p)
       (λ i. let (w, q, t) = first_some f p i in (w, by_cases (f r) (λ j. rw (j, q)) (λ j. rw (j, q)), t))
       (λ i. or_cases (f r) (any f p) e (λ q. (r, (rw (q, first-none f p i)), q)) (λ q. absurd (false≢true (sym i ∙ q))))
+
+  -- of a list with one element more
+  pub first-skip : (f : A → Bool) (r : A) (p : List A) → f r ≡ false → first f (r ∷ p) ≡ first f p
+  first-skip f r p e = rw e
+
+  pub first-new : (f : A → Bool) (r : A) (p : List A) → f r ≡ true → any f p ≡ false → first f (r ∷ p) ≡ some r
+  first-new f r p e n = rw (e, first-none f p n)
 
   pub first-old : (f : A → Bool) (r : A) (p : List A) → any f p ≡ true → first f (r ∷ p) ≡ first f p
   first-old f r p e = let (w, q, t) = first_some f p e in by_cases (f r) (λ j. rw (j, q)) (λ j. rw j)

@@ -2,24 +2,21 @@
 -- Assumes nothing.
 use mathlib.Core.Path.{◌≡◌, refl, sym, ap, ◌∙◌}
 use mathlib.Core.Bool.{Bool, true, false, cond, ◌||◌}
-use mathlib.Core.List.{List, [], ◌∷◌, ◌++◌, append_assoc, append-nil}
+use mathlib.Core.List.{List, [], ◌∷◌, ◌++◌, map, append_assoc, append-nil}
 use Prim.Native.Nat.{ℕ, zero, suc, ◌+◌, ◌-◌, ◌≤◌, ◌<◌}
-use native.Mathlib.Nat.{add-zero, zero-add, suc-add}
+use native.Mathlib.Nat.{add-zero, zero-add}
 use native.Mathlib.Omega.{arith}
 use native.Mathlib.Numerals.{add-one}
 use lib.Dec.{eqb}
-use lib.ListN.{length, take, drop, get_or, set, replicate, length-append, length-drop, length-set, length-replicate, get_or-replicate, drop_of_length-le, get_or-eq_default}
-use lib.Seq.{take-append-add, length-take-le, take-append-le, take_at, drop_at, drop-append-add, get_or-take, take-take, take-nil, drop-drop, sets, sets-eq, get_or-set_same, get_or-set_other, ext_get_or}
+use lib.ListN.{length, take, drop, get_or, set, replicate, length-append, length-drop, length-set, length-replicate, get_or-replicate, drop_of_length-le}
+use lib.Seq.{take-append-add, length-take-le, take-append-le, take_at, drop_at, drop-append-add, get_or-take, take-take, drop-drop, sets, sets-eq, get_or-set_same, get_or-set_other, ext_get_or}
 use borrow.Author.Tests.{eqb-true, eqb-false}
 use borrow.Rule.Slice.PartMut.{put_mid}
 use Rattle.std.proofs.lemmas.List.{drop-take}
+use Rattle.std.specs.Prelude.{filter}
+use Rattle.std.specs.List.{range_with_len}
 use Rattle.lists.specs.Tables.{tabulate, each, store, stepped, count_if}
 use Rattle.lists.proofs.BoolLaws.{by_cases}
-
--- ---- behind the end of a list
-
-pub none-behind : (l : List ℕ) (i : ℕ) → length l ≤ i → 0 ≡ get_or l i 0
-none-behind l i h = sym (get_or-eq_default l 0 {n = i} h)
 
 -- l has f 0, f 1, .. : n elements
 pub record ByIndex {A : Type 0} (f : ℕ → A) (n : ℕ) (l : List A) : Type 0 where
@@ -58,17 +55,15 @@ module _ {A : Type 0} where
       (ap (λ r. g j ∷ r)
       (tabulate-ext f g (suc i) (suc j) n (λ k l. ap f (omega arith) ∙ h (suc k) (omega arith) ∙ ap g (omega arith))))
 
-  -- one element more at the end
-  pub tabulate-last : (f : ℕ → A) (i n : ℕ) → tabulate f i (suc n) ≡ tabulate f i n ++ f (i + n) ∷ []
-  unfolding tabulate
-  tabulate-last f i zero = ap (λ k. f k ∷ []) (omega arith)
-  tabulate-last f i (suc n) = ap (λ r. f i ∷ r) (tabulate-last f (suc i) n ∙ ap (λ k. tabulate f (suc i) n ++ f k ∷ []) (omega arith))
+  -- a list of n elements, the element at each index by f
+  pub filled : (f : ℕ → A) (n : ℕ) (l : List A) (d : A) → length l ≡ n → ((k : ℕ) → k < n → get_or l k d ≡ f k) → l ≡ tabulate f 0 n
+  filled f n l d size at =
+      ext_get_or d l _ (size ∙ sym (length-tabulate f 0 n))
+      (λ k h. let m : k < n = omega arith in at k m ∙ sym (get_or-tabulate f 0 n k d m ∙ ap f (zero-add k)))
 
   -- a list from its elements
   pub tabulate-get_or : (l : List A) (d : A) → tabulate (λ k. get_or l k d) 0 (length l) ≡ l
-  tabulate-get_or l d =
-      ext_get_or d _ l (length-tabulate _ 0 (length l))
-      (λ k h. get_or-tabulate (λ k. get_or l k d) 0 (length l) k d (rw length-tabulate at h) ∙ ap (λ k. get_or l k d) (omega arith))
+  tabulate-get_or l d = sym (filled (λ k. get_or l k d) (length l) l d refl (λ k h. refl))
 
   -- ---- an array by its index
 
@@ -235,6 +230,13 @@ module _ {A : Type 0} where
     pub stepped-turn : (i : ℕ) (s t u : A) → t ≡ stepped f i s → u ≡ f (i + 1) t → u ≡ stepped f (i + 1) s
     stepped-turn i s t u e q = q ∙ rw (e, add-one) (sym (stepped-suc i s))
 
+-- ---- a function at each element
+
+pub map-tabulate : {A B : Type 0} (g : A → B) (f : ℕ → A) (i n : ℕ) → map g (tabulate f i n) ≡ tabulate (λ k. g (f k)) i n
+unfolding tabulate
+map-tabulate g f i zero = refl
+map-tabulate g f i (suc n) = ap (λ l. g (f i) ∷ l) (map-tabulate g f (suc i) n)
+
 -- ---- count_if
 
 pub count_if-zero : (f : ℕ → Bool) (i : ℕ) → count_if f i 0 ≡ 0
@@ -292,3 +294,11 @@ count_if-add f g h i (suc n) e d =
 pub count_if-none : (f : ℕ → Bool) (i n : ℕ) → ((k : ℕ) → f k ≡ false) → count_if f i n ≡ 0
 count_if-none f i zero e = count_if-zero f i
 count_if-none f i (suc n) e = count_if-no f i n (e i) ∙ count_if-none f (suc i) n e
+
+-- as many pass as a filter leaves of the numbers
+pub count_if-filter : (f : ℕ → Bool) (i n : ℕ) → count_if f i n ≡ length (filter f (range_with_len i n))
+unfolding count_if
+count_if-filter f i zero = refl
+count_if-filter f i (suc n) =
+    let e : count_if f (suc i) n ≡ length (filter f (range_with_len (suc i) n)) = count_if-filter f (suc i) n in
+    by_cases (f i) (λ p. rw (add-one i, p, e)) (λ p. rw (add-one i, p, e))

@@ -4,12 +4,21 @@
 
 ghost use Rattle.std.specs.Prelude.{◌≡◌, ℕ, get_or, set};
 
-// A numbering: each of its values is the index of an entry.
+// A numbering: each of its values is the index of an entry. Not `From`, whose contract a clause could not name as one number. A
+// numbering of its own type has its own `impl`, since no macro may write one.
 pub trait Number: Copy {
     ghost number: { Self → ℕ };
 
     fn index(self) -> usize
         ensures { result ≡ number self };
+}
+
+impl Number for usize {
+    ghost number = { λ i. i };
+
+    fn index(self) -> usize {
+        self
+    }
 }
 
 // The entry of a number; behind the end of the list the default.

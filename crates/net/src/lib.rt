@@ -29,7 +29,7 @@ fn with_record(journal: &[u8], i: Lsn, net: i64) -> i64
     ensures within { nat_abs result ≤ nat_abs net + max_difference }
 {
     let r = record_at(journal, i);
-    if r.kind == Kind::Write as u8 {
+    if let Ok(Kind::Write) = Kind::try_from(r.kind) {
         net + difference(r.before, r.after)
     } else {
         net
@@ -49,7 +49,8 @@ fn net_change(journal: Journal) -> i64
     net
 }
 
-// The net change of a journal whose head is right; 0 where it is refused.
+// The net change of a journal whose head is right; 0 where it is refused. A report prints it only of the copy of a take-back that is
+// accepted.
 #[tactic(auto, unfolding(crate::specs::Held::net_in, journal::specs::Journal::whole))]
 pub fn net_in(journal: &[u8]) -> i64
     ensures { (result ≡ net_in journal.now) × (nat_abs result ≤ max_difference * max_records) }

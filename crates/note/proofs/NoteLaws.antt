@@ -24,7 +24,7 @@ use Rattle.journal.proofs.Clear.{decide-clear}
 use Rattle.journal.proofs.Records.{tx_of-op_of, tag_of-op_of, history-suc}
 use Rattle.journal.proofs.Unrefused.{op_of-read, op_of-write, op_of-commit, op_of-abort}
 use Rattle.fields.specs.Answers.{Opened}
-use Rattle.fields.proofs.Fields.{formed-range, formed-kinds}
+use Rattle.fields.proofs.Fields.{formed-range}
 use Rattle.arrays.specs.declared.Touched.{Touched}
 use Rattle.arrays.specs.Recent.{last_write, by_tx}
 use Rattle.arrays.specs.Arrays.{Ready, NoBlindTo, Linked, State, ends_of, firsts_of, writes_of, bases_of, reads_of, read_before}
@@ -154,18 +154,13 @@ module _ (b : List ℕ) (n : ℕ) (r : Record) (ends firsts writes bases reads l
   ended o m c q h z v w d g y =
       state o z (y ∙ rw s.ended v) (s.written ∙ w) (s.based ∙ d) (s.last_read ∙ g) (linked-other b n links s.linked (not-read m q h))
 
-  -- a record that is no read and no write is an end
-  pub state-end : (ends' : List ℕ) (c : ℕ) → (r.kind ≡ 1 → ⊥) → (r.kind ≡ 2 → ⊥) → c ≡ cond (eqb r.kind 3) 1 2 → ends' ≡ set ends (tx_in r) c
-      → State b (n + 1) ends' firsts' writes bases reads links
+  pub state-commit : (ends' : List ℕ) → r.kind ≡ 3 → ends' ≡ set ends (tx_in r) 1 → State b (n + 1) ends' firsts' writes bases reads links
   unfolding writes_of bases_of reads_of
-  state-end ends' c x y v w =
-      by_cases (eqb r.kind 3)
-      (λ z. let q = eqb-true r.kind 3 z in
-      ended _ 3 1 q (eqb-false 3 1 refl) (op_of-commit (suc n) r q) (ends-commit (history b n) (suc n) (tx_in r)) refl refl refl (rw (v, z) at w))
-      (λ z. by_cases (eqb r.kind 4)
-      (λ e. let q = eqb-true r.kind 4 e in
-      ended _ 4 2 q (eqb-false 4 1 refl) (op_of-abort (suc n) r q) (ends-abort (history b n) (suc n) (tx_in r)) refl refl refl (rw (v, z) at w))
-      (λ e. absurd (formed-kinds (items b) r f x y (eqb-false r.kind 3 z) (eqb-false r.kind 4 e))))
+  state-commit ends' q = ended _ 3 1 q (eqb-false 3 1 refl) (op_of-commit (suc n) r q) (ends-commit (history b n) (suc n) (tx_in r)) refl refl refl
+
+  pub state-abort : (ends' : List ℕ) → r.kind ≡ 4 → ends' ≡ set ends (tx_in r) 2 → State b (n + 1) ends' firsts' writes bases reads links
+  unfolding writes_of bases_of reads_of
+  state-abort ends' q = ended _ 4 2 q (eqb-false 4 1 refl) (op_of-abort (suc n) r q) (ends-abort (history b n) (suc n) (tx_in r)) refl refl refl
 
 -- ---- the next record, which passed
 

@@ -1,22 +1,22 @@
 // A record that passed, entered in the pass.
 #![tactic(auto)]
 
-ghost use Rattle.std.specs.Prelude.{◌≡◌, cond, ◌+◌, ◌<◌, eqb, length, get_or, set};
+ghost use Rattle.std.specs.Prelude.{◌≡◌, cond, ◌+◌, ◌<◌, length, get_or, set};
 ghost use Rattle.std.proofs.Math.Option.{none};
 ghost use Rattle.format.specs.Layout.{record_at};
 ghost use Rattle.journal.specs.Orders.{decide, record_order};
-ghost use Rattle.arrays.specs.Ends.{code_of};
 ghost use Rattle.note.specs.Firsts.{first_put};
 
 use arrays::{End, Pass, last_writer};
-use format::{Key, Lsn, Record, TransactionId};
+use format::{Key, Kind, Lsn, Record, TransactionId};
+use lists::Number;
 
 // Record i is the first of transaction s, if it has none.
 fn note_first(firsts: &mut [u32], s: TransactionId, i: Lsn)
     requires { s.0 < length firsts.old }
     ensures { firsts.new ≡ first_put firsts.old s.0 i.0 }
 {
-    let at = s.0 as usize;
+    let at = s.index();
     if firsts[at] == 0 {
         firsts[at] = i.0;
     }
@@ -28,8 +28,8 @@ fn note_read(reads: &mut [u32], links: &mut [u32], x: Key, i: Lsn)
     ensures { (reads.new ≡ set reads.old x.0 i.0)
         × (links.new ≡ set links.old i.0 (get_or reads.old x.0 0)) }
 {
-    links[i.0 as usize] = reads[x.0 as usize];
-    reads[x.0 as usize] = i.0;
+    links[i.index()] = reads[x.index()];
+    reads[x.index()] = i.0;
 }
 
 // Record i writes item x; `again` if its transaction wrote it last before.
@@ -39,22 +39,11 @@ fn note_write(writes: &mut [u32], bases: &mut [u32], reads: &mut [u32], x: Key, 
         × (bases.new ≡ cond again bases.old (set bases.old x.0 i.0))
         × (reads.new ≡ set reads.old x.0 0) }
 {
-    let item = x.0 as usize;
+    let item = x.index();
     writes[item] = i.0;
     reads[item] = 0;
     if !again {
         bases[item] = i.0;
-    }
-}
-
-// The end that a commit or an abort is.
-fn end_of(kind: u8) -> End
-    ensures { code_of result ≡ cond (eqb kind 3) 1 2 }
-{
-    if kind == 3 {
-        End::Committed
-    } else {
-        End::Aborted
     }
 }
 
@@ -68,12 +57,13 @@ pub fn note(pass: &mut Pass, r: Record)
 {
     let i = Lsn(pass.n + 1);
     let s = r.transaction;
-    let again = r.kind == 2 && last_writer(pass, r.item, s).own;
+    // Told before an array changes, and on the byte: a match would be the one below once more.
+    let again = r.kind == Kind::Write as u8 && last_writer(pass, r.item, s).own;
     note_first(&mut pass.firsts, s, i);
     pass.n = i.0;
-    match r.kind {
-        1 => note_read(&mut pass.reads, &mut pass.links, r.item, i),
-        2 => note_write(
+    match Kind::try_from(r.kind) {
+        Ok(Kind::Read) => note_read(&mut pass.reads, &mut pass.links, r.item, i),
+        Ok(Kind::Write) => note_write(
             &mut pass.writes,
             &mut pass.bases,
             &mut pass.reads,
@@ -81,6 +71,8 @@ pub fn note(pass: &mut Pass, r: Record)
             i,
             again,
         ),
-        _ => pass.ends[s.0 as usize] = end_of(r.kind),
+        Ok(Kind::Commit) => pass.ends[s.index()] = End::Committed,
+        Ok(Kind::Abort) => pass.ends[s.index()] = End::Aborted,
+        Err(_) => {}
     }
 }

@@ -12,7 +12,7 @@ use borrow.Author.Tests.{eqb-true, eqb-false, ne_eqb, lt-ltb, le-ltb, ltb-true, 
 use Rattle.lists.specs.Tables.{coded}
 use Rattle.lists.specs.Search.{any, first}
 use Rattle.lists.proofs.BoolLaws.{by_cases, clash}
-use Rattle.lists.proofs.SearchLaws.{first-none, first-old}
+use Rattle.lists.proofs.SearchLaws.{first-none, first-skip, first-old}
 use Rattle.format.specs.Layout.{record_at}
 use Rattle.model.specs.History.{Op, History, tag_of, tag_in, later_of, next_in}
 use Rattle.model.specs.Undo.{only, renumber, retag}
@@ -23,9 +23,6 @@ use Rattle.repair.specs.Copying.{rank}
 
 or-cong : {a a' c c' : Bool} → a ≡ a' → c ≡ c' → a || c ≡ a' || c'
 or-cong e f = rw (e, f)
-
-first-skip : (f : Op → Bool) (r : Op) (p : History) → f r ≡ false → first f (r ∷ p) ≡ first f p
-first-skip f r p e = rw e
 
 module _ (k : ℕ → Bool) (b : List ℕ) where
   rank-zero : rank k b 0 ≡ 0

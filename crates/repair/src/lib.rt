@@ -9,7 +9,7 @@ ghost use Rattle.trace.specs.Codes.{fate_codes};
 ghost use Rattle.repair.specs.Copying.{Ranked, copy_with, copy_step};
 
 use format::{
-    Key, Lsn, MAX_TRANSACTION, RECORD_BYTES, RECORD_SLOTS, Record, TransactionId, put_record,
+    Lsn, RECORD_BYTES, RECORD_SLOTS, Record, TRANSACTIONS_END, TransactionId, put_record,
     transaction_at,
 };
 use lists::at;
@@ -19,13 +19,9 @@ use trace::{Fate, Records, survives};
 pub fn number_of<T: Copy + PartialEq>(list: &[T], default: T, v: T) -> u32
     ensures { result ≡ count_if (λ s. T.eq (get_or list.now s default) v) 1 max_transaction }
 {
-    let mut count = 0;
-    for i in 0..MAX_TRANSACTION {
-        if at(list, TransactionId(i + 1), default) == v {
-            count += 1;
-        }
-    }
-    count
+    (1..TRANSACTIONS_END)
+        .filter(|s| at(list, TransactionId(*s), default) == v)
+        .count() as u32
 }
 
 // How many of the first i records are kept, where `surviving` of those before record i are.
@@ -44,7 +40,8 @@ fn next_rank(records: &Records, i: Lsn, fates: &[Fate], surviving: u32) -> u32
     }
 }
 
-// How many of the first i records are kept, for each i.
+// How many of the first i records are kept, for each i. Ranks of their own type would have to hold the records and the fates too, so
+// that they are the ranks of these is a clause.
 pub fn ranks(records: &Records, fates: &[Fate]) -> [u32; RECORD_SLOTS]
     ensures { Ranked records.now.journal.now (fate_codes fates.now) records.now.count result }
 {
@@ -72,7 +69,7 @@ fn copy_record(records: &Records, i: Lsn, fates: &[Fate], ranks: &[u32], out: &m
     }
 }
 
-// The kept records, each at the place of its rank.
+// The kept records, each at the place of its rank. The loop is one line, so it has no function for any step.
 fn copy_records(records: &Records, fates: &[Fate], ranks: &[u32], out: &mut [u8])
     requires ranked { Ranked records.now.journal.now (fate_codes fates.now) records.now.count
         ranks.now }
@@ -96,15 +93,7 @@ pub fn copy(records: &Records, keys: u32, fates: &[Fate], ranks: &[u32], out: &m
         (copy_with records.now.journal.now (fate_codes fates.now) ranks.now records.now.count keys)
         out.old }
 {
-    let head = Record {
-        kind: 0,
-        reserved: 0,
-        transaction: TransactionId(0),
-        next: Lsn(at(ranks, Lsn(records.count), 0)),
-        item: Key(keys),
-        before: 0,
-        after: 0,
-    };
-    put_record(&mut out[0..RECORD_BYTES], head);
+    let surviving = at(ranks, Lsn(records.count), 0);
+    put_record(&mut out[0..RECORD_BYTES], Record::head(surviving, keys));
     copy_records(records, fates, ranks, out);
 }

@@ -1,7 +1,6 @@
 -- The table left: what one record does to it, and the table after n records.
 -- Assumes nothing.
 use mathlib.Core.Path.{◌≡◌, refl, sym, ◌∙◌, ap, subst}
-use mathlib.Core.Option.{some}
 use mathlib.Core.Bool.{Bool, true, false, cond}
 use mathlib.Core.List.{List, [], ◌∷◌}
 use Prim.Native.Nat.{ℕ, zero, suc, ◌+◌, ◌≤◌, ◌<◌}
@@ -11,10 +10,10 @@ use lib.IntN.{pos}
 use lib.ListN.{length, get_or, set, replicate}
 use lib.Seq.{set-set}
 use borrow.Author.Tests.{eqb-true, eq-eqb}
-use Rattle.lists.specs.Search.{any, first}
+use Rattle.lists.specs.Search.{any}
 use Rattle.lists.specs.Tables.{stepped, coded}
 use Rattle.lists.proofs.BoolLaws.{by_cases, or-false-left, or-false-right}
-use Rattle.lists.proofs.SearchLaws.{first-none, first-old}
+use Rattle.lists.proofs.SearchLaws.{first-skip, first-new, first-old}
 use Rattle.lists.proofs.TablesLaws.{tabulate-ext, tabulate-get_or, ByIndex, by_index, by-index-all, by-index-set, stepped_start, stepped-suc}
 use Rattle.format.specs.declared.Record.{Record}
 use Rattle.format.specs.Layout.{record_at}
@@ -45,15 +44,6 @@ module _ (i : ℕ) (r : Record) (fates : List ℕ) (seen : List Bool) (t : List 
   unfolding seen_after table_after
   step-other k =
       by-access (λ o. ◌≡◌ {A = List Bool × List Amount} (seen, t) (seen_after o seen, table_after fates o seen t)) i r (λ e. refl) (λ e. absurd (k e)) refl refl refl
-
--- ---- the oldest that passes, of a list with one element more
-
-module _ {A : Type 0} (f : A → Bool) (r : A) (p : List A) where
-  first-skip : f r ≡ false → first f (r ∷ p) ≡ first f p
-  first-skip e = rw e
-
-  first-new : f r ≡ true → any f p ≡ false → first f (r ∷ p) ≡ some r
-  first-new e n = rw (e, first-none f p n)
 
 -- ---- after n records
 

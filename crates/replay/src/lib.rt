@@ -49,7 +49,8 @@ fn replay_record(records: &Records, i: Lsn, fates: &[Fate], seen: &mut [bool], t
     }
 }
 
-// All the records in the table, from any table and any marks of the items written until then.
+// All the records in the table, from any table and any marks of the items written until then: both are the caller's, who may go on
+// from them. The loop is one line, so it has no function for any step.
 pub fn replay_records(records: &Records, fates: &[Fate], seen: &mut [bool], table: &mut [i32])
     ensures { (seen.new, table.new)
         ≡ stepped (replay_step records.now.journal.now (fate_codes fates.now)) records.now.count
@@ -71,7 +72,7 @@ pub fn replay(records: &Records, fates: &[Fate], table: &mut [i32])
     replay_records(records, fates, &mut seen, table);
 }
 
-// The fates into the status list.
+// The fates into the status list, which is lent as a slice: 13 has refused one of another length.
 pub fn publish(fates: &[Fate], status: &mut [u8])
     requires { (length fates.now ≡ transaction_slots) × (length status.old ≡ status_bytes) }
     ensures { status.new ≡ fate_codes fates.now }

@@ -14,7 +14,7 @@ use lines::Report;
 // Room for any report.
 pub const REPORT_BYTES: usize = 100_000;
 
-// Take-back, and its report.
+// Take-back, and its report. The parameters are document 01's loans of take-back, the table as it was, and the report's buffer.
 pub fn report_on(
     journal: &[u8],
     old: &[i32],

@@ -50,9 +50,6 @@ base-some x p k {w} e =
     let (u, q, t) = first_some (write_of (tx_of w) x) p a in
     (u, base-first x p k e ∙ q, write-to (tx_of w) x u t)
 
-pub bases-in : (b : List ℕ) (n x : ℕ) (l : List ℕ) → l ≡ bases_of (history b n) → x < 1024 → x < length l
-bases-in b n x l e h = rw (e, (bases-array (history b n)).size) h
-
 pub base-long : (b : List ℕ) (n x f : ℕ) (l : List ℕ) → Ready b n → l ≡ bases_of (history b n) → x < 1024 → f ≡ get_or l x 0 → 20 * (f + 1) ≤ length b
 base-long b n x f l k e h q =
     let z : f ≤ n = rw (q, e, (bases-array (history b n)).at x 0 h) (found-bound (base-found x b n)) in omega (arith, k.long)

@@ -171,7 +171,3 @@ back_step b n i r low h l q e =
     let f : n - (i - 1) ≡ suc (n - i) = omega arith in
     let g : suc (i - 1 + 1) ≡ i + 1 = omega arith in
     e ∙ rw (f, lowest-suc b (i - 1 + 1) (n - i), g) (ap (cond (broken b (i - 1 + 1)) (i - 1 + 1)) q)
-
-pub back_done : (b : List ℕ) (n j low : ℕ) → j ≡ 0 → low ≡ lowest_broken b (j + 1) (n - j) → low ≡ lowest_broken b 1 n
-back_done b n j low e q =
-    let f : j + 1 ≡ 1 = omega arith in let g : n - j ≡ n = omega arith in rw (f, g) at q

@@ -12,7 +12,7 @@ use Rattle.journal.proofs.OrdersLaws.{loop-done, loop-passed, loop-refused}
 use Rattle.journal.proofs.Clear.{decide-clear, each-clear}
 use Rattle.journal.proofs.Checked.{RecordRight, clear-record}
 use Rattle.fields.specs.Answers.{Opened}
-use Rattle.arrays.specs.Arrays.{Ready, NoBlindTo}
+use Rattle.arrays.specs.Arrays.{Ready}
 use Rattle.arrays.proofs.Found.{core-right}
 
 pub all_left : (b : List ℕ) (n : ℕ) → n ≡ count b → decide (records_order b) ≡ decide (each (record_order b) (0 + 1) (n - 0))
@@ -51,6 +51,3 @@ module _ (b : List ℕ) (n m i : ℕ) (o : Opened b n m) (p : decide (each (reco
 
   pub ready_at : i ≤ n → Ready b i
   ready_at h = record { long = omega (arith, o.long); few = omega (arith, o.few); items = omega (arith, o.keys, o.narrow); passed = λ k l. core-right (right-at k l) }
-
-  pub no_blind-at : NoBlindTo b i
-  no_blind-at = record { read = λ k l. (right-at k l).follows.not_blind }

@@ -11,11 +11,13 @@ use arrays::Pass;
 use fields::{Journal, formed};
 use format::{Lsn, MAX_TRANSACTION, Record, TRANSACTION_SLOTS, next_at, record_at, transaction_at};
 use journal::Reason;
+use lists::Number;
 use note::note;
 use rules::judge;
 
 // The lowest record from j + 1 on whose next is wrong, where `low` is that from j + 2 on; `slots` has the lowest later record of
 // each transaction. Records of transactions above 1,024 are passed over.
+// 0 is none, as in the field `next` that the slots are compared with.
 fn step_back(journal: Journal, j: u32, low: Lsn, slots: &mut [u32; TRANSACTION_SLOTS]) -> Lsn
     requires { (j < journal.records) × (slots.old ≡ nexts_of journal.bytes.now (j + 1)) }
     ensures low { result.0 ≡ cond (broken journal.entry.bytes.now (j + 1)) (j + 1) low.0 }
@@ -27,7 +29,7 @@ fn step_back(journal: Journal, j: u32, low: Lsn, slots: &mut [u32; TRANSACTION_S
     if MAX_TRANSACTION < s.0 {
         return low;
     }
-    let at = s.0 as usize;
+    let at = s.index();
     let later = slots[at];
     slots[at] = i.0;
     if next.0 == later { low } else { i }
@@ -56,7 +58,7 @@ fn check_record(pass: &Pass, low: Lsn, r: Record) -> Result<(), Reason>
     if !formed(pass.journal.items, r) {
         return Err(Reason::Malformed(i));
     }
-    if low.0 == i.0 {
+    if low == i {
         return Err(Reason::Chain(i));
     }
     judge(pass, r)

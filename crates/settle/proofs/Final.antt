@@ -1,31 +1,31 @@
 -- What check answers once the records passed: rule 10 item by item, and the number of active transactions.
 -- Assumes nothing.
-use mathlib.Core.Path.{◌≡◌, sym, ◌∙◌, ap}
-use mathlib.Core.Bool.{Bool, true, false, cond, not, not-not, and-true, and-false}
+use mathlib.Core.Path.{◌≡◌, refl, sym, ◌∙◌, ap}
+use mathlib.Core.Bool.{Bool, true, false, not, and-true, and-false}
 use mathlib.Core.Logic.{◌⊎◌, inl, inr}
 use mathlib.Core.List.{List}
 use mathlib.Core.Option.{none, some}
-use Prim.Native.Nat.{ℕ, suc, ◌+◌, ◌-◌, ◌<◌, ◌≤◌}
+use Prim.Native.Nat.{ℕ, ◌+◌, ◌-◌, ◌<◌}
 use native.Mathlib.Omega.{arith}
-use native.Mathlib.Numerals.{add-one}
 use lib.IntN.{pos}
 use lib.Dec.{eqb}
 use lib.ListN.{get_or}
 use borrow.Author.Tests.{ne_eqb, not-true, not-false}
 use mir.Syntax.{w32}
-use mir.Val.{of_z, SFits}
+use mir.Val.{to_z, of_z, SFits}
+use mir.ValLaws.{to_z-of_z}
 use Rattle.lists.specs.Search.{any, first}
 use Rattle.lists.specs.Tables.{count_if}
-use Rattle.lists.proofs.BoolLaws.{by_cases}
-use Rattle.lists.proofs.SearchLaws.{latest-none, any-latest, latest-passes, first-none, first_some}
-use Rattle.lists.proofs.TablesLaws.{count_if-zero, count_if-last}
+use Rattle.lists.proofs.BoolLaws.{by_cases, clash}
+use Rattle.lists.proofs.SearchLaws.{latest-none, first-none, first_some}
+use Rattle.lists.proofs.TablesLaws.{count_if-ext}
 use Rattle.model.specs.History.{Op, Amount, same_amount, write_to, of_tx, tag_in, ended, active, standing}
+use Rattle.model.proofs.Amounts.{same-eq}
 use Rattle.journal.specs.Inputs.{inputs_of}
 use Rattle.journal.specs.Journal.{count, items, history, whole, amount_at}
 use Rattle.journal.specs.Refusals.{unsettled}
 use Rattle.journal.specs.Orders.{try_each, settled_order, decide}
 use Rattle.journal.proofs.OrdersLaws.{tried-passed, tried-refused}
-use Rattle.fields.proofs.Fields.{same_bits}
 use Rattle.arrays.specs.declared.end.End.{End}
 use Rattle.arrays.specs.declared.end.End.TheVariants.{Open, Committed, Aborted}
 use Rattle.arrays.specs.Ends.{code_of, codes}
@@ -33,29 +33,38 @@ use Rattle.arrays.specs.Arrays.{Ready, ends_of, firsts_of, writes_of}
 use Rattle.arrays.proofs.EndCodes.{active-code}
 use Rattle.arrays.proofs.Found.{first_found, found_none}
 use Rattle.arrays.proofs.ArraysLaws.{ends-array, firsts-array}
-use Rattle.arrays.proofs.WriterLaws.{code-at, last_none, last_some}
+use Rattle.arrays.proofs.WriterLaws.{code-at, last_none}
+use Rattle.rules.specs.Standing.{unlike_standing}
 use Rattle.rules.proofs.AmountLaws.{standing-any}
+use Rattle.settle.specs.Active.{active_in}
 
 -- ---- rule 10
 
-module _ (b : List ℕ) (n x j : ℕ) (l : List ℕ) (t : List Amount) (k : Ready b n) (c : n ≡ count b) (d : l ≡ writes_of (history b n)) (e : x < 1024) (q : j ≡ get_or l x 0) where
+same-swap : (a c : Amount) → same_amount a c ≡ same_amount c a
+same-swap a c =
+    by_cases (same_amount a c)
+    (λ e. rw (same-eq a c e))
+    (λ e. by_cases (same_amount c a) (λ f. rw (same-eq c a f)) (λ f. e ∙ sym f))
+
+module _ (b : List ℕ) (n x : ℕ) (l : List ℕ) (t : List Amount) (ends : List End) (k : Ready b n) (c : n ≡ count b) (d : l ≡ writes_of (history b n)) (e : x < 1024) (g : codes ends ≡ ends_of (history b n)) where
   at-end : history b n ≡ whole b
   unfolding whole
   at-end = ap (history b) c
 
-  pub settled-unwritten : j ≡ 0 → eqb j 0 ≡ not (unsettled b t x)
-  unfolding unsettled
-  settled-unwritten y = rw (y, ← at-end, latest-none (write_to x) (history b n) (last_none b n x j l k d e q y))
+  unwritten : get_or l x 0 ≡ 0 → any (write_to x) (history b n) ≡ false
+  unwritten y = latest-none (write_to x) (history b n) (last_none b n x (get_or l x 0) l k d e refl y)
 
-  -- the standing amount s compared with the table's
-  pub settled-written : (s : Amount) (ends : List End) → (j ≡ 0 → ⊥) → s ≡ standing (pos 0) (history b n) x → SFits w32 s → SFits w32 (get_or t x (pos 0)) → codes ends ≡ ends_of (history b n)
-      → eqb (of_z w32 s) (of_z w32 (get_or t x (pos 0))) ≡ not (unsettled b t x)
-  unfolding unsettled
-  settled-written s ends y a fs ft g =
-      let o = last_some b n x j l k d e q y in
-      let w = any-latest (write_to x) (write_to x) (history b n) o (latest-passes (write_to x) (history b n) o) in
-      let st = standing-any b n x l ends (amount_at t x) k d e (λ z. y (q ∙ z)) g in
-      same_bits s (get_or t x (pos 0)) fs ft ∙ rw (← at-end, w, st, a) (sym (not-not (same_amount (standing (pos 0) (history b n) x) (get_or t x (pos 0)))))
+  -- at the end, an amount of the table is compared as a before image is
+  settled-is : unlike_standing (history b n) x (amount_at t x) ≡ unsettled b t x
+  unfolding unlike_standing unsettled
+  settled-is =
+      by_cases (any (write_to x) (history b n))
+      (λ w. rw (← at-end, w, standing-any b n x l ends (amount_at t x) k d e (λ y. clash w (unwritten y)) g)
+      (ap not (same-swap (amount_at t x) (standing (pos 0) (history b n) x))))
+      (λ w. rw (← at-end, w))
+
+  pub settled-by : (r : Bool) → SFits w32 (amount_at t x) → r ≡ not (unlike_standing (history b n) x (to_z w32 (of_z w32 (amount_at t x)))) → r ≡ not (unsettled b t x)
+  settled-by r f q = q ∙ ap not (rw (to_z-of_z w32 (amount_at t x) f) settled-is)
 
 -- the loop over the items: p tests item x
 module _ (b : List ℕ) (t : List Amount) where
@@ -89,28 +98,21 @@ module _ (b : List ℕ) (n s : ℕ) (ends : List End) (firsts : List ℕ) (e : c
   open-is : eqb (code_of (get_or ends s Open)) 0 ≡ not (ended (history b n) s)
   open-is = ap (λ c. eqb c 0) (sym (code-at ends s)) ∙ rw (e, (ends-array (history b n)).at s 0 h) (sym (active-code (history b n) s))
 
-  pub active-open : get_or ends s Open ≡ Open → not (eqb (get_or firsts s 0) 0) ≡ active (history b n) s
-  active-open z = rw (← begun-is, ← open-is, z) (sym (and-true (not (eqb (get_or firsts s 0) 0))))
+  -- of the arrays of a history
+  pub active-at : active_in (codes ends) firsts s ≡ active (history b n) s
+  unfolding active_in
+  active-at = rw (code-at ends s, begun-is, open-is)
 
-  pub active-ended : (get_or ends s Open ≡ Committed) ⊎ (get_or ends s Open ≡ Aborted) → false ≡ active (history b n) s
-  active-ended (inl z) = rw (← begun-is, ← open-is, z) (sym (and-false (not (eqb (get_or firsts s 0) 0))))
-  active-ended (inr z) = rw (← begun-is, ← open-is, z) (sym (and-false (not (eqb (get_or firsts s 0) 0))))
+module _ (b : List ℕ) (n : ℕ) (ends : List End) (firsts : List ℕ) (e : codes ends ≡ ends_of (history b n)) (f : firsts ≡ firsts_of (history b n)) where
+  pub active-number : count_if (active_in (codes ends) firsts) 1 1024 ≡ count_if (active (history b n)) 1 1024
+  active-number = count_if-ext _ _ 1 1 1024 (λ k h. active-at b n (1 + k) ends firsts e f (omega arith))
 
-module _ (f : ℕ → Bool) (s k : ℕ) (h : 1 ≤ s) (q : k ≡ count_if f 1 (s - 1)) where
-  one_more : count_if f 1 (s + 1 - 1) ≡ cond (f s) (suc k) k
-  one_more =
-      let e : s + 1 - 1 ≡ suc (s - 1) = omega arith in
-      let g : 1 + (s - 1) ≡ s = omega arith in
-      rw (e, count_if-last f 1 (s - 1), g, q)
+module _ (ends : List End) (firsts : List ℕ) (s : ℕ) where
+  pub active-open : get_or ends s Open ≡ Open → not (eqb (get_or firsts s 0) 0) ≡ active_in (codes ends) firsts s
+  unfolding active_in
+  active-open z = rw (code-at ends s, z) (sym (and-true (not (eqb (get_or firsts s 0) 0))))
 
-  pub count_yes : (a : Bool) → a ≡ f s → a ≡ true → k + 1 ≡ count_if f 1 (s + 1 - 1)
-  count_yes a e t = sym (one_more ∙ rw (← e, t, add-one))
-
-  pub count_no : (a : Bool) → a ≡ f s → a ≡ false → k ≡ count_if f 1 (s + 1 - 1)
-  count_no a e t = sym (one_more ∙ rw (← e, t))
-
-pub count-start : (f : ℕ → Bool) → 0 ≡ count_if f 1 (1 - 1)
-count-start f = sym (count_if-zero f 1)
-
-pub count-done : (f : ℕ → Bool) (s k : ℕ) → s ≤ 1025 → 1025 ≤ s → k ≡ count_if f 1 (s - 1) → k ≡ count_if f 1 1024
-count-done f s k h l q = let e : s - 1 ≡ 1024 = omega arith in rw e at q
+  pub active-ended : (get_or ends s Open ≡ Committed) ⊎ (get_or ends s Open ≡ Aborted) → false ≡ active_in (codes ends) firsts s
+  unfolding active_in
+  active-ended (inl z) = rw (code-at ends s, z) (sym (and-false (not (eqb (get_or firsts s 0) 0))))
+  active-ended (inr z) = rw (code-at ends s, z) (sym (and-false (not (eqb (get_or firsts s 0) 0))))

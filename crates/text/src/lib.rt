@@ -10,7 +10,8 @@ ghost use Rattle.text.specs.Parts.{text_of, texts_of};
 use Part::{Amount, Number, Word};
 use itoa::{Buffer, Integer};
 
-// A buffer, and where the text in it ends.
+// A buffer, and where the text in it ends; std's `Cursor` would answer each word by a `Result`. Whoever writes asks for room for just its
+// text, so no fact of the page can stand for it.
 #[derive(Drop)]
 pub struct Page<'a> {
     pub bytes: &'a mut [u8],
@@ -67,7 +68,7 @@ impl Page<'_> {
     }
 }
 
-// The lines of the report.
+// The lines of the report: each line's words stand in one place.
 #[tactic(auto, using(crate::proofs::LinesLaws::line_steps))]
 impl Page<'_> {
     // JOURNAL n COPY m

@@ -3,36 +3,26 @@
 use mathlib.Core.Path.{◌≡◌, refl, sym, ◌∙◌, ap}
 use mathlib.Core.Bool.{Bool, true, false, ◌||◌}
 use mathlib.Core.List.{List, [], ◌∷◌, map}
-use Prim.Native.Nat.{ℕ, zero, suc, ◌+◌, ◌<◌}
-use native.Mathlib.Omega.{arith}
+use Prim.Native.Nat.{ℕ, ◌+◌, ◌<◌}
 use lib.Dec.{eqb}
 use lib.ListN.{length, get_or, set, take, replicate, get_or-map, length-map}
 use borrow.Author.Tests.{eq-eqb}
+use denote.Enum.Declared.{Declared, tag_of}
 use denote.Enum.Bare.{sameb}
-use Rattle.std.proofs.lemmas.List.{take_more, ext_get_or}
+use Rattle.std.proofs.lemmas.List.{take_more}
 use Rattle.lists.specs.Search.{member}
-use Rattle.lists.specs.Tables.{tabulate, count_if}
+use Rattle.lists.specs.Tables.{count_if}
 use Rattle.lists.proofs.MemberLaws.{member-append}
-use Rattle.lists.proofs.TablesLaws.{length-tabulate, ByIndex, by_index, by-index-all, by-index-set, count_if-ext}
+use Rattle.lists.proofs.TablesLaws.{filled, ByIndex, by_index, by-index-all, by-index-set, count_if-ext}
 use Rattle.arrays.specs.declared.end.End.{End}
 use Rattle.arrays.specs.declared.end.End.TheVariants.{Open, Committed, Aborted}
 use Rattle.arrays.specs.contracts.end.End as end
 use Rattle.arrays.specs.Ends.{code_of, codes}
+use Rattle.arrays.proofs.WriterLaws.{code-at}
 use Rattle.trace.specs.declared.Fate.{Fate}
 use Rattle.trace.specs.declared.Fate.TheVariants.{Neither, Surviving, Undone}
 use Rattle.trace.specs.contracts.Fate as fate
 use Rattle.trace.specs.Codes.{coded, flags_of, fate_code, fate_codes, fate_of, fates_of}
-
--- an array of n elements, the element at each index by f
-pub filled : {A : Type 0} (f : ℕ → A) (n : ℕ) (l : List A) (d : A) → length l ≡ n → ((k : ℕ) → k < n → get_or l k d ≡ f k) → l ≡ tabulate f 0 n
-filled f n l d size at =
-    ext_get_or d l (tabulate f 0 n) (size ∙ sym (length-tabulate f 0 n))
-    (λ k h. let m : k < n = omega arith in at k m ∙ sym ((by_index f n).at k d m))
-
-pub map-tabulate : {A B : Type 0} (g : A → B) (f : ℕ → A) (i n : ℕ) → map g (tabulate f i n) ≡ tabulate (λ k. g (f k)) i n
-unfolding tabulate
-map-tabulate g f i zero = refl
-map-tabulate g f i (suc n) = ap (λ l. g (f i) ∷ l) (map-tabulate g f (suc i) n)
 
 -- ---- flags
 
@@ -64,59 +54,42 @@ listed-step bad k h =
     more : (j : ℕ) → member j (take (k + 1) bad) ≡ member j (take k bad) || (eqb j (get_or bad k 0) || false)
     more j = ap (member j) (take_more bad k 0 h) ∙ member-append j (take k bad) (get_or bad k 0 ∷ [])
 
--- ---- a list of values that have codes, by the list of the codes
+-- ---- a list of values of an enum without fields, by the list of their codes, which are the enum's tags
 
-module _ {T : Type 0} (code : T → ℕ) (d : T) (z : code d ≡ 0) where
-  pub code-at : (l : List T) (i : ℕ) → get_or (map code l) i 0 ≡ code (get_or l i d)
-  code-at l i = rw z at (get_or-map code l i d)
+module _ (D : Declared) (code : D.D → ℕ) (tagged : (x : D.D) → tag_of D x ≡ code x) (d : D.D) (z : code d ≡ 0) where
+  -- `==` compares the tags
+  same-coded : (l : List D.D) (v : D.D) (i : ℕ) → sameb D (get_or l i d) v ≡ coded (code v) (map code l) i
+  unfolding coded
+  same-coded l v i = rw (tagged (get_or l i d), tagged v, ← get_or-map code l i d, z)
 
-  -- where `==` compares the codes
-  module _ (same : T → T → Bool) (h : (x y : T) → same x y ≡ eqb (code x) (code y)) where
-    pub same-coded : (l : List T) (v : T) (i : ℕ) → same (get_or l i d) v ≡ coded (code v) (map code l) i
-    unfolding coded
-    same-coded l v i = h (get_or l i d) v ∙ sym (ap (λ k. eqb k (code v)) (code-at l i))
+  -- how many transactions have the value
+  number-coded : (l : List D.D) (v : D.D) → count_if (λ i. sameb D (get_or l i d) v) 1 1024 ≡ count_if (coded (code v) (map code l)) 1 1024
+  number-coded l v = count_if-ext _ _ 1 1 1024 (λ k m. same-coded l v (1 + k))
 
-    -- how many transactions have the value
-    pub number-coded : (l : List T) (v : T) → count_if (λ i. same (get_or l i d) v) 1 1024 ≡ count_if (coded (code v) (map code l)) 1 1024
-    number-coded l v = count_if-ext _ _ 1 1 1024 (λ k m. same-coded l v (1 + k))
+tagged-fate : (f : Fate) → tag_of fate.the_type f ≡ fate_code f
+tagged-fate Neither = refl
+tagged-fate Surviving = refl
+tagged-fate Undone = refl
 
--- `==` on fates and on ends
-pub same-fate : (f g : Fate) → sameb fate.the_type f g ≡ eqb (fate_code f) (fate_code g)
-same-fate Neither Neither = refl
-same-fate Neither Surviving = refl
-same-fate Neither Undone = refl
-same-fate Surviving Neither = refl
-same-fate Surviving Surviving = refl
-same-fate Surviving Undone = refl
-same-fate Undone Neither = refl
-same-fate Undone Surviving = refl
-same-fate Undone Undone = refl
-
-pub same-end : (e f : End) → sameb end.the_type e f ≡ eqb (code_of e) (code_of f)
-same-end Open Open = refl
-same-end Open Committed = refl
-same-end Open Aborted = refl
-same-end Committed Open = refl
-same-end Committed Committed = refl
-same-end Committed Aborted = refl
-same-end Aborted Open = refl
-same-end Aborted Committed = refl
-same-end Aborted Aborted = refl
+tagged-end : (e : End) → tag_of end.the_type e ≡ code_of e
+tagged-end Open = refl
+tagged-end Committed = refl
+tagged-end Aborted = refl
 
 pub fate-at : (fates : List Fate) (s : ℕ) → get_or (fate_codes fates) s 0 ≡ fate_code (get_or fates s Neither)
-fate-at = code-at fate_code Neither refl
+fate-at fates s = get_or-map fate_code fates s Neither
 
 pub survives-is : (fates : List Fate) (s : ℕ) → sameb fate.the_type (get_or fates s Neither) Surviving ≡ coded 1 (fate_codes fates) s
-survives-is fates = same-coded fate_code Neither refl (sameb fate.the_type) same-fate fates Surviving
+survives-is fates = same-coded fate.the_type fate_code tagged-fate Neither refl fates Surviving
 
 pub committed-is : (ends : List End) (s : ℕ) → sameb end.the_type (get_or ends s Open) Committed ≡ coded 1 (codes ends) s
-committed-is ends = same-coded code_of Open refl (sameb end.the_type) same-end ends Committed
+committed-is ends = same-coded end.the_type code_of tagged-end Open refl ends Committed
 
 pub number-fates : (fates : List Fate) (v : Fate) → count_if (λ s. sameb fate.the_type (get_or fates s Neither) v) 1 1024 ≡ count_if (coded (fate_code v) (fate_codes fates)) 1 1024
-number-fates = number-coded fate_code Neither refl (sameb fate.the_type) same-fate
+number-fates = number-coded fate.the_type fate_code tagged-fate Neither refl
 
 pub number-ends : (ends : List End) (v : End) → count_if (λ s. sameb end.the_type (get_or ends s Open) v) 1 1024 ≡ count_if (coded (code_of v) (codes ends)) 1 1024
-number-ends = number-coded code_of Open refl (sameb end.the_type) same-end
+number-ends = number-coded end.the_type code_of tagged-end Open refl
 
 pub length_codes : (fates : List Fate) → length (fate_codes fates) ≡ length fates
 length_codes fates = length-map fates fate_code
@@ -129,4 +102,4 @@ pub fates-done : (ends : List End) (flags : List Bool) (all : List Fate) → len
 unfolding fates_of
 fates-done ends flags all n h =
     filled (λ s. fate_of (get_or (codes ends) s 0) (get_or flags s false)) 1025 all Neither n
-    (λ k l. h k l ∙ ap (λ e. fate_of e (get_or flags k false)) (sym (code-at code_of Open refl ends k)))
+    (λ k l. h k l ∙ ap (λ e. fate_of e (get_or flags k false)) (sym (code-at ends k)))

@@ -13,7 +13,7 @@ use lib.ListN.{length, get_or, get_or-eq_default}
 use borrow.Author.Tests.{ne_eqb, ltb-true, ltb-false}
 use Rattle.lists.specs.Search.{latest, member}
 use Rattle.lists.proofs.BoolLaws.{by_cases, clash}
-use Rattle.lists.proofs.TablesLaws.{tabulate-ext, length-tabulate, by_index}
+use Rattle.lists.proofs.TablesLaws.{tabulate-ext, length-tabulate, by_index, map-tabulate}
 use Rattle.model.specs.History.{Op, History, Amount, Tag, read, write, commit, abort, other, tx_of, committed}
 use Rattle.model.specs.Undo.{is_source, source_by, Upto, all, reads_from, by_member, reached, undone, surviving}
 use Rattle.model.proofs.Ends.{tail-ends}
@@ -32,7 +32,7 @@ use Rattle.arrays.proofs.Found.{passing-history}
 use Rattle.trace.specs.declared.Fate.{Fate}
 use Rattle.trace.specs.Codes.{coded, flags_of, fate_code, fate_codes, fate_of, fates_of}
 use Rattle.trace.specs.Trace.{writer_in, source, traced}
-use Rattle.trace.proofs.CodesLaws.{flags-array, map-tabulate}
+use Rattle.trace.proofs.CodesLaws.{flags-array}
 use Rattle.trace.proofs.Ends.{none-committed, coded-committed, committed-coded}
 
 -- ---- what feeds

@@ -26,7 +26,8 @@ pub enum Fate {
     Undone = 2,
 }
 
-// The first `count` records of a journal, all of which are in its bytes.
+// The first `count` records of a journal, all of which are in its bytes. Less than a `Journal`: no head is looked at, so none is asked;
+// that they passed is asked by those who need it.
 #[derive(Clone, Copy)]
 pub struct Records<'j> {
     pub journal: &'j [u8],
@@ -36,6 +37,7 @@ pub struct Records<'j> {
 }
 
 impl Records<'_> {
+    // Record i, which is one of them or the head: a loop's index says so.
     pub fn at(&self, i: Lsn) -> Record
         requires { i.0 ≤ self.now.count }
         ensures { result ≡ record_at self.now.journal.now i.0 }
@@ -44,7 +46,7 @@ impl Records<'_> {
     }
 }
 
-// No transaction, as a source: document 01 numbers transactions from 1. In an `Option`, `Some(0)` would be a second none.
+// No transaction, as a source: document 01 numbers transactions from 1. An `Option` would take twice the bytes of the stack.
 const NOBODY: TransactionId = TransactionId(0);
 
 // A flag for each listed transaction.
@@ -98,7 +100,8 @@ fn trace_record(
     }
 }
 
-// All the records in the trace, from any sources and any flags.
+// All the records in the trace, from any sources and any flags: both are the caller's, who may go on from them. The loop is one line, so
+// it has no function for any step.
 pub fn trace_records(
     records: &Records,
     ends: &[End],

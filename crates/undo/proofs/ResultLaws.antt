@@ -9,10 +9,10 @@ use lib.Dec.{ltb}
 use lib.ListN.{length, get_or}
 use borrow.Author.Tests.{eqb-true, ltb-true, ltb-false}
 use Rattle.std.proofs.lemmas.Bool.{not-false}
+use Rattle.std.proofs.lemmas.List.{get_or_past}
 use Rattle.lists.specs.Search.{or_else}
 use Rattle.lists.specs.Tables.{coded}
 use Rattle.lists.proofs.BoolLaws.{by_cases}
-use Rattle.lists.proofs.TablesLaws.{none-behind}
 use Rattle.model.specs.History.{Amount}
 use Rattle.model.specs.Undo.{is_source, surviving, undone}
 use Rattle.journal.specs.Inputs.{Inputs, inputs_of}
@@ -102,7 +102,7 @@ module _ (d : Inputs) (bad status out : List ℕ) where
             fun_ext (λ s. by_cases (ltb s 1025)
             (λ q. coded-undone d.journal n x.ready bad fates f s (ltb-true s 1025 q))
             (λ q. let l = ltb-false s 1025 q in
-            rw (← none-behind fates s (omega (arith, status-length (history d.journal n) bad fates f)), none-committed d.journal n x.ready s (λ u. omega arith))))
+            rw (get_or_past fates s 0 (omega (arith, status-length (history d.journal n) bad fates f)), none-committed d.journal n x.ready s (λ u. omega arith))))
 
         same : delivered d fates status out ≡ calls.undo d bad status out
         unfolding delivered calls.undo copy whole

@@ -49,6 +49,7 @@ fn undo_passed(
 
 // Takes back the listed transactions and those that read from them: the table, the status of each transaction number and the copy,
 // at the front of `out`; or a refusal, which writes nothing (document 01, take-back).
+// Table, status and `out` are three loans there and in C, so they are three parameters.
 pub fn undo(
     journal: &[u8],
     table: &mut [i32],

@@ -22,34 +22,39 @@ use Rattle.journal.specs.Calls.{refused, accepted, answered, check}
 use Rattle.journal.specs.Outcomes.{refusal_of}
 use Rattle.journal.proofs.Checked.{Sound, open-clear, records-clear, clear-checks}
 use Rattle.journal.proofs.Clear.{clear-decide, decide-clear}
-use Rattle.journal.proofs.OrdersLaws.{decide-try, decide-turn, decide-one}
+use Rattle.journal.proofs.OrdersLaws.{decide-try, decide-turn, decide-one, decide-over, or_else-none, or_else-assoc}
 use Rattle.journal.proofs.Answered.{accepted-only, refused-only}
 use Rattle.fields.specs.Answers.{Size, size_of, Opened}
 use Rattle.fields.proofs.HeadLaws.{head_opened}
-use Rattle.arrays.specs.Arrays.{Ready, NoBlindTo}
+use Rattle.arrays.specs.Arrays.{Ready}
 use Rattle.scan.proofs.Pass.{ready_at}
-use Rattle.validate.specs.Verified.{verified_order}
+use Rattle.validate.specs.Verified.{tabled_order, verified_order}
 
 module _ (b : List ℕ) (t : List Amount) where
   -- ---- after the head: the table's length, the records, rule 10
 
   module _ (m : ℕ) (k : m ≡ items b) where
-    verified-parts : decide (verified_order (inputs_of b t))
-        ≡ or_else (cond (not (eqb (length t) m)) (some (record { number = 3; place = 0 })) none) (or_else (decide (records_order b)) (decide (settled_order (inputs_of b t))))
-    unfolding verified_order table_order wrong_table
-    verified-parts =
-        decide-turn (table_order (inputs_of b t)) (records_order b ∷ settled_order (inputs_of b t) ∷ [])
-        ∙ rw (decide-try 3 0 (wrong_table b t), decide-turn (records_order b) (settled_order (inputs_of b t) ∷ []), decide-one (settled_order (inputs_of b t)), k)
+    tabled-parts : decide (tabled_order (inputs_of b t)) ≡ or_else (cond (not (eqb (length t) m)) (some (record { number = 3; place = 0 })) none) (decide (records_order b))
+    unfolding tabled_order table_order wrong_table
+    tabled-parts =
+        decide-turn (table_order (inputs_of b t)) (records_order b ∷ [])
+        ∙ rw (decide-try 3 0 (wrong_table b t), decide-one (records_order b), k)
 
-    pub table_refused : (length t ≡ m → ⊥) → some (record { number = 3; place = 0 }) ≡ decide (verified_order (inputs_of b t))
-    table_refused z = rw (verified-parts, ne_eqb (length t) m z)
+    pub table_refused : (length t ≡ m → ⊥) → some (record { number = 3; place = 0 }) ≡ decide (tabled_order (inputs_of b t))
+    table_refused z = rw (tabled-parts, ne_eqb (length t) m z)
 
-    module _ (z : length t ≡ m) where
-      pub records_refused : (f : Refusal) → some f ≡ decide (records_order b) → some f ≡ decide (verified_order (inputs_of b t))
-      records_refused f q = rw (verified-parts, eq-eqb (length t) m z, ← q)
+    pub records_decide : length t ≡ m → (v : Option Refusal) → v ≡ decide (records_order b) → v ≡ decide (tabled_order (inputs_of b t))
+    records_decide z v q = rw (tabled-parts, eq-eqb (length t) m z) q
 
-      pub final_decides : (v : Option Refusal) → none ≡ decide (records_order b) → v ≡ decide (settled_order (inputs_of b t)) → v ≡ decide (verified_order (inputs_of b t))
-      final_decides v q g = rw (verified-parts, eq-eqb (length t) m z, ← q) g
+  verified-parts : decide (verified_order (inputs_of b t)) ≡ or_else (decide (tabled_order (inputs_of b t))) (decide (settled_order (inputs_of b t)))
+  unfolding verified_order tabled_order
+  verified-parts = simp (decide-turn, decide-over, or_else-none, or_else-assoc)
+
+  pub tabled_refused : (f : Refusal) → some f ≡ decide (tabled_order (inputs_of b t)) → some f ≡ decide (verified_order (inputs_of b t))
+  tabled_refused f q = rw (verified-parts, ← q)
+
+  pub final_decides : (v : Option Refusal) → none ≡ decide (tabled_order (inputs_of b t)) → v ≡ decide (settled_order (inputs_of b t)) → v ≡ decide (verified_order (inputs_of b t))
+  final_decides v q g = rw (verified-parts, ← q) g
 
   -- ---- check
 
@@ -89,6 +94,3 @@ module _ (b : List ℕ) (t : List Amount) where
     pub checked-ready : Ready b (count b)
     unfolding records_order
     checked-ready = ready_at b (count b) (items b) (count b) checked-opened (clear-decide (records-clear b sound.right)) (omega arith)
-
-    pub checked-no_blind : NoBlindTo b (count b)
-    checked-no_blind = record { read = λ i h. (sound.right i h).follows.not_blind }

@@ -1,7 +1,6 @@
 -- The head, the records, then the array of first records.
-use mathlib.Core.Path.{◌∙◌, ap}
 use Rattle.std.proofs.lemmas.Result.{err_from_is_err_and}
-use Rattle.journal.specs.Journal.{count}
+use Rattle.fields.proofs.HeadLaws.{opened-count}
 use Rattle.chain.proofs.Stages.{begin-refused, begin-records, begin-passed}
 use Rattle.chain.proofs.begin.Goals as goal
 
@@ -23,7 +22,7 @@ returns c =
     let j = c.new-pass.ensures.journal in
     let v = c.in_ok-records.ensures in
     let e = rw (j, h.bytes) at v.answer in
-    let n = v.all ∙ ap (λ j. j.records) j ∙ c.in_ok-header.field-0.opened.counted ∙ ap count h.bytes in
+    let n = opened-count _ _ _ _ v.all j h.bytes in
     let p = c.records.new.pass in
     let k = rw (v.journal, j, h.bytes) at p.ready in
     let f = rw (v.journal, j, h.bytes) at p.state.begun in

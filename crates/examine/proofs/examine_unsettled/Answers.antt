@@ -1,11 +1,10 @@
--- The head and the table's length, the records, then 11.
+-- The head, the table's length and the records, then 11.
 use mathlib.Core.Path.{◌∙◌, ap}
 use Rattle.std.proofs.lemmas.Result.{err_from_is_err_and}
-use Rattle.journal.specs.declared.Reason.TheVariants.{TableLength}
-use Rattle.journal.specs.Journal.{count, items}
 use Rattle.journal.proofs.Answered.{accepted-only}
+use Rattle.fields.proofs.HeadLaws.{opened-count}
 use Rattle.fields.specs.Heads.{size}
-use Rattle.examine.proofs.Examining.{refused_by, sized_by, unsettled_head, unsettled_table, unsettled_records, unsettled_late}
+use Rattle.examine.proofs.Examining.{refused_by, sized_by, unsettled_head, unsettled_early, unsettled_late}
 use Rattle.examine.proofs.examine_unsettled.Goals as goal
 
 pub returns-in_err-header-clause-answer : goal.returns-in_err-header-clause-answer
@@ -13,28 +12,20 @@ returns-in_err-header-clause-answer c =
     let p = err_from_is_err_and c.from_residual.result c.from_residual.ensures.1 in
     rw (p.1, p.2) (refused_by _ _ _ (unsettled_head _ _ _ c.in_err-header.ensures.answer))
 
-pub returns-then-table-pass-clause-answer : goal.returns-then-table-pass-clause-answer
-returns-then-table-pass-clause-answer c =
+pub returns-in_err-verify_records-clause-answer : goal.returns-in_err-verify_records-clause-answer
+returns-in_err-verify_records-clause-answer c =
+    let p = err_from_is_err_and c.from_residual-in_err-verify_records.result c.from_residual-in_err-verify_records.ensures.1 in
     let h = c.in_ok-header.ensures in
-    let k = ap (λ j. j.items) c.new-pass.ensures.journal ∙ c.in_ok-header.field-0.opened.keys ∙ ap items h.bytes in
-    refused_by _ _ TableLength (unsettled_table _ _ _ h.answer _ k c.if-table-pass.true)
-
-pub returns-in_err-records-clause-answer : goal.returns-in_err-records-clause-answer
-returns-in_err-records-clause-answer c =
-    let p = err_from_is_err_and c.from_residual-in_err-records.result c.from_residual-in_err-records.ensures.1 in
-    let h = c.in_ok-header.ensures in
-    let k = ap (λ j. j.items) c.new-pass.ensures.journal ∙ c.in_ok-header.field-0.opened.keys ∙ ap items h.bytes in
-    let e = rw (c.new-pass.ensures.journal, h.bytes) at c.in_err-records.ensures.answer in
-    rw (p.1, p.2) (refused_by _ _ _ (unsettled_records _ _ _ h.answer _ k c.if-table-pass.false _ e))
+    let e = rw (c.new-pass.ensures.journal, h.bytes) at c.in_err-verify_records.ensures.answer in
+    rw (p.1, p.2) (refused_by _ _ _ (unsettled_early _ _ _ h.answer _ e))
 
 pub returns-clause-answer : goal.returns-clause-answer
 returns-clause-answer c =
     let h = c.in_ok-header.ensures in
     let j = c.new-pass.ensures.journal in
-    let v = c.in_ok-records.ensures in
+    let v = c.in_ok-verify_records.ensures in
     let e = rw (j, h.bytes) at v.answer in
-    let k = ap (λ j. j.items) j ∙ c.in_ok-header.field-0.opened.keys ∙ ap items h.bytes in
-    let n = v.all ∙ ap (λ j. j.records) j ∙ c.in_ok-header.field-0.opened.counted ∙ ap count h.bytes in
+    let n = opened-count _ _ _ _ v.all j h.bytes in
     let a = rw (v.journal, j, h.bytes) at c.closed.ensures.answer in
-    sized_by _ _ c.closed.result _ (unsettled_late _ _ _ h.answer _ k c.if-table-pass.false _ _ e n a) c.closed.ensures.journal
+    sized_by _ _ c.closed.result _ (unsettled_late _ _ _ h.answer _ _ e n a) c.closed.ensures.journal
     (ap size (v.journal ∙ j) ∙ (accepted-only _ _ _ h.answer).1)

@@ -1,5 +1,7 @@
 -- The two refusals in their order, then the head stored in front.
 use native.Mathlib.Omega.{arith}
+use Rattle.std.proofs.Common.{ap, ◌∙◌}
+use Rattle.format.specs.Layout.{bytes_of}
 use Rattle.init.proofs.Orders.{start-truncated, start-items, started}
 use Rattle.init.proofs.start.Goals as goal
 
@@ -15,5 +17,5 @@ returns-then-items-lt1 c =
 
 pub returns : goal.returns
 returns c =
-    let s = started c.args.journal.now c.args.items (omega arith) (omega arith) (omega arith) c.put_record.ensures in
+    let s = started c.args.journal.now c.args.items (omega arith) (omega arith) (omega arith) (c.put_record.ensures ∙ ap bytes_of c.head.ensures) in
     record { answer = s.0; journal = s.1 }

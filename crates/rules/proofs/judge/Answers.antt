@@ -1,3 +1,4 @@
+use mathlib.Core.Path.{◌≡◌}
 use borrow.Author.Rules.{rules}
 use native.Mathlib.Omega.{arith}
 use Rattle.fields.proofs.Fields.{formed-item-read, formed-item-write}
@@ -5,26 +6,29 @@ use Rattle.rules.proofs.RuleLaws.{tx-low, rule-terminated, rule_end, of-read, of
 use Rattle.rules.proofs.judge.Goals as goal
 
 pub bounds : goal.bounds
-bounds c = search tx-low
+bounds c = rw c.index.ensures (search tx-low)
 
 pub returns-in-Committed : goal.returns-in-Committed
-returns-in-Committed c = search rule-terminated
+returns-in-Committed c = search (rule-terminated, rules)
 
 pub judge_read-requires : goal.judge_read-requires
 judge_read-requires c =
-    let x = formed-item-read _ c.args.r c.requires c.in-1.is in
-    (omega (arith, c.args.pass.now.journal.opened.narrow), search tx-low, search)
+    let x = formed-item-read _ c.args.r c.requires (search rules) in
+    (omega (arith, c.args.pass.now.journal.opened.narrow), search tx-low, search rules)
 
 pub judge_write-requires : goal.judge_write-requires
 judge_write-requires c =
-    let x = formed-item-write _ c.args.r c.requires c.in-2.is in
-    (omega (arith, c.args.pass.now.journal.opened.narrow), search tx-low, search)
+    let x = formed-item-write _ c.args.r c.requires (search rules) in
+    (omega (arith, c.args.pass.now.journal.opened.narrow), search tx-low, search rules)
 
-pub returns-in-1 : goal.returns-in-1
-returns-in-1 c = search of-read
+pub returns-in-Ok-Read : goal.returns-in-Ok-Read
+returns-in-Ok-Read c = search (of-read, rules)
 
-pub returns-in-2 : goal.returns-in-2
-returns-in-2 c = search (of-write, rules)
+pub returns-in-Ok-Write : goal.returns-in-Ok-Write
+returns-in-Ok-Write c = let k : c.args.r.kind ≡ 2 = search rules in search (of-write, rules)
 
-pub returns-in_default : goal.returns-in_default
-returns-in_default c = search rule_end
+pub returns-in-Ok-Commit : goal.returns-in-Ok-Commit
+returns-in-Ok-Commit c = search (rule_end, rules)
+
+pub returns-in-Ok-Commit-2 : goal.returns-in-Ok-Commit-2
+returns-in-Ok-Commit-2 c = search (rule_end, rules)

@@ -1,8 +1,11 @@
+use mathlib.Core.Path.{ap}
+use borrow.Author.Rules.{rules}
+use lib.ListN.{get_or}
 use Rattle.rules.proofs.ReadersLaws.{walked_start, walked-long, walked-in, walked-range, walked-less, walked_step, walked_end}
 use Rattle.rules.proofs.readers.Goals as goal
 
 pub loop-k-init : goal.loop-k-init
-loop-k-init c = search walked_start
+loop-k-init c = let q = ap (λ i. get_or c.args.pass.now.reads i 0) c.index.ensures in search walked_start
 
 pub transaction_at-v-requires : goal.transaction_at-v-requires
 transaction_at-v-requires c = search walked-long
@@ -10,14 +13,14 @@ transaction_at-v-requires c = search walked-long
 pub look-all-requires : goal.look-all-requires
 look-all-requires c = search walked-range
 
-pub bounds-pass-k : goal.bounds-pass-k
-bounds-pass-k c = search walked-in
+pub bounds-pass-index-in-loop-k : goal.bounds-pass-index-in-loop-k
+bounds-pass-index-in-loop-k c = search (walked-in, rules)
 
 pub loop-k-smaller : goal.loop-k-smaller
-loop-k-smaller c = search walked-less
+loop-k-smaller c = search (walked-less, rules)
 
 pub loop-k-preserved : goal.loop-k-preserved
-loop-k-preserved c = search walked_step
+loop-k-preserved c = let q = ap (λ i. get_or c.args.pass.now.links i 0) c.index-in-loop-k.ensures in search walked_step
 
 pub returns : goal.returns
 returns c = search walked_end

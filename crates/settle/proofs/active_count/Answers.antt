@@ -1,21 +1,14 @@
-use mathlib.Core.Path.{◌∙◌}
-use native.Mathlib.Omega.{arith}
-use Rattle.model.specs.History.{active}
-use Rattle.arrays.specs.Past.{past}
-use Rattle.settle.proofs.Final.{count-start, count_yes, count_no}
+use Rattle.std.proofs.Common.{rules, tests, refl, sym, ◌∙◌}
+use Rattle.std.proofs.lemmas.Iterator.{YieldsList-from_range}
+use Rattle.std.proofs.lemmas.Iterator.Consumers.{YieldsList-from_filter, count_from_yields_List}
+use Rattle.arrays.specs.Ends.{codes}
+use Rattle.settle.specs.Active.{active_in}
+use Rattle.lists.proofs.TablesLaws.{count_if-filter}
 use Rattle.settle.proofs.active_count.Goals as goal
-use Rattle.settle.proofs.active_count.Goals.{then-is_active, else-is_active}
 
-pub loop-s-init : goal.loop-s-init
-loop-s-init c = (count-start (active (past c.args.pass.now)), omega arith)
-
-pub loop-s-preserved : goal.loop-s-preserved
-loop-s-preserved c =
-    let f = active (past c.args.pass.now) in
-    let l = c.loop-s in
-    let k = l.invariant in
-    let r = c.is_active in
-    elim c.if-is_active.branch [
-      | then-is_active w ↦ (w.count-is ∙ count_yes f l.s l.count l.auto.s k.0 r.result r.ensures w.if-is_active.true, omega arith)
-      | else-is_active w ↦ (w.count-is ∙ count_no f l.s l.count l.auto.s k.0 r.result r.ensures w.if-is_active.false, omega arith)
-    ]
+pub returns : goal.returns
+returns c =
+    let f = active_in (codes c.args.ends.now) c.args.firsts.now in
+    count_from_yields_List c.filter.result _ c.count.ensures.ran
+    (YieldsList-from_filter _ f (YieldsList-from_range 1 1025 1024 c.filter.ensures.source refl) c.filter.ensures.closure (λ x r q k. search (rules, tests)))
+    ∙ sym (count_if-filter f 1 1024)

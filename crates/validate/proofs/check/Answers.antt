@@ -1,6 +1,7 @@
-use mathlib.Core.Path.{◌∙◌, ap}
+use mathlib.Core.Path.{◌∙◌}
 use Rattle.std.proofs.lemmas.Result.{err_from_is_err_and}
-use Rattle.journal.specs.Journal.{count}
+use Rattle.fields.proofs.HeadLaws.{opened-count}
+use Rattle.settle.proofs.Final.{active-number}
 use Rattle.validate.proofs.Whole.{head_refused, verified_decides, check_refused, check_accepted}
 use Rattle.validate.proofs.check.Goals as goal
 
@@ -10,19 +11,20 @@ returns-in_err-header c =
     let e = c.in_err-header.ensures.answer in
     rw (p.1, p.2) (check_refused _ _ _ (head_refused _ _ _ e))
 
-pub returns-in_err-verify : goal.returns-in_err-verify
-returns-in_err-verify c =
-    let p = err_from_is_err_and c.from_residual-in_err-verify.result c.from_residual-in_err-verify.ensures.1 in
+pub returns-in_err-verify_opened : goal.returns-in_err-verify_opened
+returns-in_err-verify_opened c =
+    let p = err_from_is_err_and c.from_residual-in_err-verify_opened.result c.from_residual-in_err-verify_opened.ensures.1 in
     let h = c.in_ok-header.ensures in
-    let e = rw (c.new-pass.ensures.journal, h.bytes) at c.in_err-verify.ensures.answer in
+    let e = rw (c.new-pass.ensures.journal, h.bytes) at c.in_err-verify_opened.ensures.answer in
     rw (p.1, p.2) (check_refused _ _ _ (verified_decides _ _ _ _ h.answer e))
 
 pub returns : goal.returns
 returns c =
     let h = c.in_ok-header.ensures in
     let j = c.new-pass.ensures.journal in
-    let v = c.in_ok-verify.ensures in
+    let v = c.in_ok-verify_opened.ensures in
     let e = rw (j, h.bytes) at v.answer in
-    let n = v.all ∙ ap (λ j. j.records) j ∙ c.in_ok-header.field-0.opened.counted ∙ ap count h.bytes in
-    let a = rw (v.journal, j, h.bytes) at c.active_count.ensures in
-    check_accepted _ _ _ _ (verified_decides _ _ _ _ h.answer e) n a
+    let n = opened-count _ _ _ _ v.all j h.bytes in
+    let p = c.verify_opened.new.pass in
+    let a = c.active_count.ensures ∙ active-number p.journal.bytes.now p.n p.ends p.firsts p.state.ended p.state.begun in
+    check_accepted _ _ _ _ (verified_decides _ _ _ _ h.answer e) n (rw (v.journal, j, h.bytes) at a)
