@@ -52,7 +52,8 @@ impl Reason {
         }
     }
 
-    // Its place: a record, an item, a transaction, a list position, or 0. A reason is two numbers, so neither of them is a `From`.
+    // Its place: a record, an item, a transaction, a list position, or 0. A reason is two numbers, so neither of them is a `From`;
+    // nor has std one of a `usize`.
     pub fn place(self) -> u64
         ensures { result ≡ place_of self }
     {

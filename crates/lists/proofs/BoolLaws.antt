@@ -12,6 +12,7 @@ pub or_cases {ℓ} : {P : Type ℓ} (a b : Bool) → a || b ≡ true → (a ≡ 
 or_cases true b e f g = f refl
 or_cases false b e f g = g e
 
+-- The kit's and_parts and or_parts give both sides as a pair; these name the side that is meant, in some 250 places.
 pub and_left : (a b : Bool) → a && b ≡ true → a ≡ true
 and_left true b e = refl
 and_left false b e = e
@@ -28,6 +29,7 @@ pub or-false-right : (a b : Bool) → a || b ≡ false → b ≡ false
 or-false-right true b e = cc
 or-false-right false b e = e
 
+-- the kit's both_ways gives ⊥, and this what is asked
 pub clash {ℓ} : {P : Type ℓ} {b : Bool} → b ≡ true → b ≡ false → P
 clash t f = absurd (false≢true (sym f ∙ t))
 

@@ -1,4 +1,3 @@
-pub mod Numbers
 pub mod RankLaws
 pub mod CopyLaws
 pub mod Repaired

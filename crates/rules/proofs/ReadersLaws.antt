@@ -47,9 +47,6 @@ module _ (b : List ℕ) (n s x : ℕ) (f : Touched) (k : ℕ) (all : Touched) (w
   pub walked-long : Ready b n → 20 * (k + 1) ≤ length b
   walked-long r = omega (arith, w.low, r.long)
 
-  pub walked-in : Ready b n → k < 3201
-  walked-in r = omega (arith, w.low, r.few)
-
   walked-low : (v : ℕ) → Ready b n → (k ≡ 0 → ⊥) → v ≡ tx_in (record_at b k) → v < 1025
   walked-low v r z y = let a = passed-range b n r.passed k (omega arith) w.low in omega (arith, y)
 

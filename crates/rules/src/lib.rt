@@ -62,7 +62,8 @@ pub fn matches_standing(pass: &Pass, x: Key, amount: i32) -> bool
     pass.writes[x.index()] == 0 || amount == standing_at(pass, x)
 }
 
-// Rules 7 to 9 of a read of item x by s, the next record; s has not ended. Item and transaction are given, and not the record.
+// Rules 7 to 9 of a read of item x by s, the next record; s has not ended. Item and transaction are given, and not the
+// record, so that nothing below takes them from its bytes once more.
 fn judge_read(pass: &Pass, x: Key, s: TransactionId) -> Result<(), Reason>
     requires { (x.0 < max_items) × (s.0 < transaction_slots) × (get_or pass.now.ends s.0 End.Open ≡ End.Open) }
     ensures { refusal_in result

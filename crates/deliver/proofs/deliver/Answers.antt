@@ -8,9 +8,6 @@ returns-then-out-bytes c =
     let d = delivers-capacity _ _ _ _ _ _ _ c.requires _ c.ranks-ranks.ensures _ _ c.at.ensures refl c.if-out-bytes.true in
     record { answer = d.0; table = d.1.0; status = d.1.1.0; out = d.1.1.1 }
 
-pub publish-requires : goal.publish-requires
-publish-requires c = (search rules, c.requires.status_length)
-
 pub returns : goal.returns
 returns c =
     let u = c.totals.ensures in

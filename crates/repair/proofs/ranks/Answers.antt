@@ -1,6 +1,6 @@
 -- One rank more a turn.
 use Rattle.std.proofs.Common.{refl, arith, rules}
-use Rattle.repair.proofs.Numbers.{filled-more}
+use Rattle.std.proofs.lemmas.List.Edits.{fill_by_more}
 use Rattle.repair.proofs.RankLaws.{rank-start, ranks-start, rank-more, rank-at-most}
 use Rattle.repair.proofs.ranks.Goals as goal
 
@@ -13,4 +13,4 @@ next_rank-surviving-requires-clause-few c = let few = rank-at-most _ _ _ _ c.loo
 pub loop-i-preserved : goal.loop-i-preserved
 loop-i-preserved c =
     let more = rank-more _ _ _ _ _ c.loop-i.invariant.counted c.next_rank-surviving.ensures in
-    record { counted = more; size = search rules; at = filled-more _ _ _ _ (omega arith) more c.loop-i.invariant.at }
+    record { counted = more; size = search rules; at = λ k m. rw more (fill_by_more _ _ _ 0 (omega arith) (λ j q. c.loop-i.invariant.at j (omega arith)) k (omega arith)) }

@@ -1,7 +1,7 @@
 use mathlib.Core.Path.{ap}
 use borrow.Author.Rules.{rules}
 use lib.ListN.{get_or}
-use Rattle.rules.proofs.ReadersLaws.{walked_start, walked-long, walked-in, walked-range, walked-less, walked_step, walked_end}
+use Rattle.rules.proofs.ReadersLaws.{walked_start, walked-long, walked-range, walked-less, walked_step, walked_end}
 use Rattle.rules.proofs.readers.Goals as goal
 
 pub loop-k-init : goal.loop-k-init
@@ -12,9 +12,6 @@ transaction_at-v-requires c = search walked-long
 
 pub look-all-requires : goal.look-all-requires
 look-all-requires c = search walked-range
-
-pub bounds-pass-index-in-loop-k : goal.bounds-pass-index-in-loop-k
-bounds-pass-index-in-loop-k c = search (walked-in, rules)
 
 pub loop-k-smaller : goal.loop-k-smaller
 loop-k-smaller c = search (walked-less, rules)
