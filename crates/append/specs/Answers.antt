@@ -1,19 +1,13 @@
 -- What append leaves.
 -- Assumes nothing.
 use Rattle.std.specs.Prelude.{◌≡◌, List, ℕ, Result}
-use Rattle.format.specs.declared.Record.{Record}
 use Rattle.model.specs.History.{Amount}
 use Rattle.journal.specs.Inputs.{Inputs}
-use Rattle.journal.specs.Journal.{amount_at}
 use Rattle.journal.specs.declared.Reason.{Reason}
 use Rattle.journal.specs.Outcomes.{answer_of}
 use Rattle.journal.specs.Calls.{append}
 use Rattle.counts.specs.declared.Counts.{Counts}
 use Rattle.counts.specs.Answers.{record_counts_of}
-
--- a write's before comes from the table
-abbrev pub FromTable : List Amount → Record → Type 0
-FromTable t r = r.kind ≡ 2 → r.before ≡ amount_at t r.item.0
 
 -- the answer, the counts, the journal and the table that append leaves
 pub record Appends (c : Counts) (d : Inputs) (kind s x : ℕ) (a : Amount) (r : Result (Unit {0}) Reason) (c' : Counts) (b' : List ℕ)

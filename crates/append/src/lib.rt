@@ -8,7 +8,7 @@ ghost use Rattle.journal.specs.Orders.{append_order, decide};
 ghost use Rattle.journal.specs.Calls as calls;
 ghost use Rattle.counts.specs.Answers.{record_counts_of};
 ghost use Rattle.journal.specs.Outcomes.{answer_of};
-ghost use Rattle.append.specs.Answers.{FromTable, Appends};
+ghost use Rattle.append.specs.Answers.{Appends};
 
 use arrays::Pass;
 use counts::Counts;
@@ -22,14 +22,13 @@ use validate::verify_opened;
 
 // The record count of a journal that takes the new record, or the first refusal in document 01's order: check, then the rest.
 fn prepare(journal: &[u8], table: &[i32], counts: Counts, r: Record) -> Result<u32, Reason>
-    requires { FromTable table.now r }
     ensures { answer_of (λ n. n) result
         ≡ calls.answered (decide (append_order (inputs_of journal.now table.now) (record_counts_of counts) r))
         (count journal.now) }
 {
     let mut pass = Pass::new(header(journal)?);
     verify_opened(&mut pass, table)?;
-    judge_entry(&pass, counts, r)?;
+    judge_entry(&pass.seen().touches, pass.journal.items, counts, r)?;
     Ok(pass.n)
 }
 

@@ -7,6 +7,8 @@ use Rattle.format.specs.Limits.{journal_bytes, max_records, max_items, record_sl
 use Rattle.model.specs.History.{History, Tag, tag_in}
 use Rattle.journal.specs.Journal.{items, op_of, history}
 use Rattle.journal.specs.Refusals.{malformed, wrong_next, terminated, conflicting, blind, mismatched}
+use Rattle.arrays.specs.declared.kept.Kept.{Kept}
+use Rattle.arrays.specs.Ends.{codes}
 use Rattle.arrays.specs.Recent.{end_code, first_tag, last_write, base_write, reads_since, newest}
 
 -- ---- by transaction, 0 to 1,024
@@ -87,3 +89,7 @@ pub record State (b : List ℕ) (n : ℕ) (ends firsts writes bases reads links 
   pub based : IsBases b n bases
   pub last_read : IsReads b n reads
   pub linked : Linked b n links
+
+-- and of all
+abbrev pub Holds : List ℕ → ℕ → Kept → Type 0
+Holds b n k = State b n (codes k.ends) k.firsts k.writes k.bases k.reads k.links

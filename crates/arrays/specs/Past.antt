@@ -1,8 +1,8 @@
--- The records that a pass has behind it.
+-- The records behind what is kept of them.
 -- Assumes nothing.
 use Rattle.model.specs.History.{History}
 use Rattle.journal.specs.Journal.{history}
-use Rattle.arrays.specs.declared.pass.Pass.{Pass}
+use Rattle.arrays.specs.declared.kept.Writers.{Writers}
 
-abbrev pub past : Pass → History
-past p = history p.journal.bytes.now p.n
+abbrev pub past : Writers → History
+past w = history w.journal.now w.n

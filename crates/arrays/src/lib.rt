@@ -8,10 +8,12 @@ ghost use Rattle.arrays.specs.Past.{past};
 ghost use Rattle.arrays.specs.Writers.{writer_of, looked};
 
 mod end;
+mod kept;
 mod pass;
 
 pub use end::End;
 use format::{Key, Lsn, TransactionId, transaction_at};
+pub use kept::{Amounts, Kept, Seen, Touches, Writers};
 use lists::Number;
 pub use pass::{Pass, Passed};
 
@@ -40,18 +42,19 @@ pub fn look(ends: &[End], s: TransactionId, v: TransactionId, found: Touched) ->
 }
 
 // Who wrote item x last; s asks.
-pub fn last_writer(pass: &Pass, x: Key, s: TransactionId) -> Touched
+pub fn last_writer(writers: &Writers, x: Key, s: TransactionId) -> Touched
     requires { x.0 < max_items }
-    ensures { result ≡ writer_of (past pass.now) s.0 x.0 }
+    ensures { result ≡ writer_of (past writers.now) s.0 x.0 }
 {
     let nobody = Touched {
         other: false,
         own: false,
     };
-    let w = Lsn(pass.writes[x.index()]);
+    let w = Lsn(writers.writes[x.index()]);
     if w.0 == 0 {
         return nobody;
     }
-    let v = transaction_at(pass.journal.bytes, w);
-    look(&pass.ends, s, v, nobody)
+    let v = transaction_at(writers.journal, w);
+    let ends = writers.ends;
+    look(ends, s, v, nobody)
 }

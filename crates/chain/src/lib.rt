@@ -38,7 +38,7 @@ fn begin(journal: &[u8], s: TransactionId) -> Result<Lsn, Reason>
 {
     let mut pass = Pass::new(header(journal)?);
     records(&mut pass)?;
-    first_of(&pass.firsts, s)
+    first_of(&pass.kept.firsts, s)
 }
 
 // A walk along a chain: the records from `next` on.

@@ -1,17 +1,16 @@
 -- Rules 15, 4, 6 to 8 and 14 of the new record, one after the other.
 -- Assumes nothing.
 use mathlib.Core.Path.{◌≡◌, ◌∙◌}
-use mathlib.Core.Bool.{false, cond}
+use mathlib.Core.Bool.{cond}
 use mathlib.Core.List.{List, [], ◌∷◌}
 use mathlib.Core.Option.{Option, none, some}
-use Prim.Native.Nat.{ℕ, suc, ◌+◌}
+use Prim.Native.Nat.{ℕ, ◌+◌}
 use native.Mathlib.Numerals.{add-one}
 use Rattle.lists.specs.Search.{or_else}
-use Rattle.lists.proofs.BoolLaws.{by_cases}
 use Rattle.format.specs.declared.Record.{Record}
 use Rattle.journal.specs.Journal.{count, items, op_of, history, whole}
-use Rattle.journal.specs.Refusals.{RecordCounts, malformed, mismatched, no_room, wrong_counts}
-use Rattle.journal.specs.Orders.{Refusal, rule_order, counts_order, new_order, decide}
+use Rattle.journal.specs.Refusals.{RecordCounts, malformed, no_room, wrong_counts}
+use Rattle.journal.specs.Orders.{Refusal, access_order, counts_order, new_order, decide}
 use Rattle.journal.proofs.OrdersLaws.{or_else-none, decide-try, decide-turn, decide-over, decide-one}
 use Rattle.entry.specs.Entries.{entry_order}
 
@@ -19,15 +18,12 @@ use Rattle.entry.specs.Entries.{entry_order}
 abbrev at : ℕ → ℕ → Option Refusal
 at n p = some (record { number = n; place = p })
 
--- 4, then 6 to 9, then 14; 9 does not arise
-pub new_parts : (b : List ℕ) (r : Record) → (malformed (items b) r ≡ false → mismatched (whole b) (op_of (suc (count b)) r) ≡ false)
-    → decide (new_order b r)
+-- 4, then 6 to 8, then 14
+pub new_parts : (b : List ℕ) (r : Record) → decide (new_order b r)
     ≡ or_else (cond (malformed (items b) r) (at 4 (count b + 1)) none)
-    (or_else (decide (rule_order (history b (count b)) (count b + 1) (op_of (count b + 1) r))) (cond (no_room b) (at 14 0) none))
-unfolding new_order rule_order whole
-new_parts b r m =
-    simp (add-one, decide-turn, decide-over, decide-try, or_else-none)
-    (by_cases (malformed (items b) r) (λ f. rw f) (λ f. let z = m f in rw (f, z) (simp or_else-none)))
+    (or_else (decide (access_order (history b (count b)) (count b + 1) (op_of (count b + 1) r))) (cond (no_room b) (at 14 0) none))
+unfolding new_order whole
+new_parts b r = simp (add-one, decide-turn, decide-over, decide-try, or_else-none)
 
 -- 15, then the new record
 pub entry_parts : (b : List ℕ) (c : RecordCounts) (r : Record) → decide (entry_order b c r) ≡ or_else (cond (wrong_counts b c) (at 15 0) none) (decide (new_order b r))

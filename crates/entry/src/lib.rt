@@ -1,51 +1,55 @@
 // Whether a journal that passes check takes one record more: rule 15, then 4, 6 to 8 and 14 of the new record.
 #![tactic(auto)]
 
-ghost use Rattle.std.specs.Prelude.{◌≡◌, not, false, suc};
-ghost use Rattle.journal.specs.Journal.{count, items, op_of, whole};
-ghost use Rattle.journal.specs.Refusals.{malformed, mismatched, no_room, wrong_counts};
+ghost use Rattle.std.specs.Prelude.{◌≡◌, ◌≤◌, not};
+ghost use Rattle.format.specs.Limits.{max_records};
+ghost use Rattle.journal.specs.Journal.{count, items};
+ghost use Rattle.journal.specs.Refusals.{no_room, wrong_counts};
 ghost use Rattle.journal.specs.Orders.{new_order, decide};
 ghost use Rattle.journal.specs.Outcomes.{refusal_in};
+ghost use Rattle.arrays.specs.Arrays.{Ready};
 ghost use Rattle.counts.specs.Answers.{record_counts_of};
 ghost use Rattle.entry.specs.Entries.{entry_order};
 
-use arrays::Pass;
+use arrays::Touches;
 use counts::{Counts, count_kinds};
-use fields::{Journal, formed};
+use fields::formed;
 use format::{Lsn, MAX_RECORDS, RECORD_BYTES, Record};
 use journal::Reason;
-use rules::judge;
+use rules::judge_access;
 
 // Rule 15: the counts agree with the journal.
 #[tactic(auto, unfolding(journal::specs::Refusals::wrong_counts, journal::specs::Journal::whole))]
-fn agrees(journal: Journal, counts: Counts) -> bool
-    ensures { result ≡ not (wrong_counts journal.entry.bytes.now (record_counts_of counts)) }
+fn agrees(journal: &[u8], n: u32, counts: Counts) -> bool
+    requires { Ready journal.now n × (n ≡ count journal.now) }
+    ensures { result ≡ not (wrong_counts journal.now (record_counts_of counts)) }
 {
-    counts == count_kinds(journal.bytes, journal.records)
+    counts == count_kinds(journal, n)
 }
 
 // Rule 14: fewer than 3,200 records, and 20 bytes behind the journal.
 #[tactic(auto, unfolding(journal::specs::Refusals::no_room))]
-fn has_room(journal: Journal) -> bool
-    ensures { result ≡ not (no_room journal.entry.bytes.now) }
+fn has_room(journal: &[u8], n: u32) -> bool
+    requires { (n ≡ count journal.now) × (n ≤ max_records) }
+    ensures { result ≡ not (no_room journal.now) }
 {
-    let n = journal.records;
-    n < MAX_RECORDS && RECORD_BYTES * (n as usize + 1) + RECORD_BYTES <= journal.bytes.len()
+    n < MAX_RECORDS && RECORD_BYTES * (n as usize + 1) + RECORD_BYTES <= journal.len()
 }
 
-// Rules 4, 6 to 8 and 14 of the new record, where all records passed; 9 does not arise.
+// Rules 4, 6 to 8 and 14 of the new record, where all records passed.
 #[tactic(auto, using(crate::proofs::Judging::new_parts))]
-fn judge_new(pass: &Pass, r: Record) -> Result<(), Reason>
-    requires { (pass.now.n ≡ pass.now.journal.records)
-        × (malformed (items pass.now.journal.bytes.now) r ≡ false
-        → mismatched (whole pass.now.journal.bytes.now) (op_of (suc (count pass.now.journal.bytes.now)) r) ≡ false) }
-    ensures { refusal_in result ≡ decide (new_order pass.now.journal.bytes.now r) }
+fn judge_new(touches: &Touches, keys: u32, r: Record) -> Result<(), Reason>
+    requires { (touches.now.writers.n ≡ count touches.now.writers.journal.now)
+        × (keys ≡ items touches.now.writers.journal.now) }
+    ensures { refusal_in result ≡ decide (new_order touches.now.writers.journal.now r) }
 {
-    if !formed(pass.journal.items, r) {
-        return Err(Reason::Malformed(Lsn(pass.n + 1)));
+    let n = touches.writers.n;
+    if !formed(keys, r) {
+        return Err(Reason::Malformed(Lsn(n + 1)));
     }
-    judge(pass, r)?;
-    if has_room(pass.journal) {
+    judge_access(touches, r)?;
+    let journal = touches.writers.journal;
+    if has_room(journal, n) {
         Ok(())
     } else {
         Err(Reason::Capacity)
@@ -54,14 +58,15 @@ fn judge_new(pass: &Pass, r: Record) -> Result<(), Reason>
 
 // Rule 15, then the new record.
 #[tactic(auto, using(crate::proofs::Judging::entry_parts))]
-pub fn judge_entry(pass: &Pass, counts: Counts, r: Record) -> Result<(), Reason>
-    requires { (pass.now.n ≡ pass.now.journal.records)
-        × (malformed (items pass.now.journal.bytes.now) r ≡ false
-        → mismatched (whole pass.now.journal.bytes.now) (op_of (suc (count pass.now.journal.bytes.now)) r) ≡ false) }
-    ensures { refusal_in result ≡ decide (entry_order pass.now.journal.bytes.now (record_counts_of counts) r) }
+pub fn judge_entry(touches: &Touches, keys: u32, counts: Counts, r: Record) -> Result<(), Reason>
+    requires { (touches.now.writers.n ≡ count touches.now.writers.journal.now)
+        × (keys ≡ items touches.now.writers.journal.now) }
+    ensures { refusal_in result
+        ≡ decide (entry_order touches.now.writers.journal.now (record_counts_of counts) r) }
 {
-    if !agrees(pass.journal, counts) {
+    let journal = touches.writers.journal;
+    if !agrees(journal, touches.writers.n, counts) {
         return Err(Reason::Counts);
     }
-    judge_new(pass, r)
+    judge_new(touches, keys, r)
 }

@@ -5,13 +5,13 @@ ghost use Rattle.std.specs.Prelude.{◌≡◌, IfOk};
 ghost use Rattle.std.proofs.Math.Option.{none};
 ghost use Rattle.model.specs.History.{active};
 ghost use Rattle.journal.specs.Inputs.{inputs_of};
+ghost use Rattle.journal.specs.Journal.{history};
 ghost use Rattle.journal.specs.Orders.{active_order, known_order, decide};
 ghost use Rattle.journal.specs.Calls.{answered};
 ghost use Rattle.journal.specs.Outcomes.{answer_of, refusal_in};
 ghost use Rattle.fields.specs.Answers.{size_of};
 ghost use Rattle.fields.specs.Heads.{size};
 ghost use Rattle.arrays.specs.Ends.{codes};
-ghost use Rattle.arrays.specs.Past.{past};
 ghost use Rattle.examine.specs.Stages.{unknown_in, admit_order, examined_order, unsettled_order};
 
 use arrays::{End, Pass, Passed};
@@ -24,10 +24,10 @@ use validate::{verify_opened, verify_records};
 
 // Refusal 11: the lowest transaction that is active.
 fn finished(pass: &Pass) -> Result<(), Reason>
-    ensures { refusal_in result ≡ decide (active_order (active (past pass.now))) }
+    ensures { refusal_in result ≡ decide (active_order (active (history pass.now.journal.bytes.now pass.now.n))) }
 {
     for s in 1..TRANSACTIONS_END {
-        if is_active(&pass.ends, &pass.firsts, TransactionId(s)) {
+        if is_active(&pass.kept.ends, &pass.kept.firsts, TransactionId(s)) {
             return Err(Reason::Active(TransactionId(s)));
         }
     }
@@ -37,13 +37,13 @@ fn finished(pass: &Pass) -> Result<(), Reason>
 // The journal and the ends of its transactions, or refusal 11; all records passed.
 fn closed<'j>(pass: &Pass<'j>) -> Result<Passed<'j>, Reason>
     requires { pass.now.n ≡ pass.now.journal.records }
-    ensures answer { refusal_in result ≡ decide (active_order (active (past pass.now))) }
+    ensures answer { refusal_in result ≡ decide (active_order (active (history pass.now.journal.bytes.now pass.now.n))) }
     ensures journal { IfOk result (λ p. p.journal ≡ pass.now.journal) }
 {
     finished(pass)?;
     Ok(Passed {
         journal: pass.journal,
-        ends: pass.ends,
+        ends: pass.kept.ends,
     })
 }
 

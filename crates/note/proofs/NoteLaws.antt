@@ -3,7 +3,6 @@
 use mathlib.Core.Path.{◌≡◌, refl, sym, ◌∙◌, ap}
 use mathlib.Core.Bool.{Bool, false, cond}
 use mathlib.Core.List.{List, ◌∷◌}
-use mathlib.Core.Option.{none}
 use Prim.Native.Nat.{ℕ, suc, ◌+◌, ◌<◌, ◌≤◌}
 use native.Mathlib.Omega.{arith}
 use native.Mathlib.Numerals.{add-one}
@@ -18,18 +17,14 @@ use Rattle.format.specs.Layout.{record_at}
 use Rattle.model.specs.History.{Op, History, read, write, tx_of, tag_of, tag_in, of_tx}
 use Rattle.journal.specs.Journal.{items, tx_in, op_of, history}
 use Rattle.journal.specs.Refusals.{malformed}
-use Rattle.journal.specs.Orders.{decide, record_order}
-use Rattle.journal.proofs.Checked.{RecordRight, clear-record}
-use Rattle.journal.proofs.Clear.{decide-clear}
 use Rattle.journal.proofs.Records.{tx_of-op_of, tag_of-op_of, history-suc}
 use Rattle.journal.proofs.Unrefused.{op_of-read, op_of-write, op_of-commit, op_of-abort}
-use Rattle.fields.specs.Answers.{Opened}
 use Rattle.fields.proofs.Fields.{formed-range}
 use Rattle.arrays.specs.declared.Touched.{Touched}
 use Rattle.arrays.specs.Recent.{last_write, by_tx}
-use Rattle.arrays.specs.Arrays.{Ready, NoBlindTo, Linked, State, ends_of, firsts_of, writes_of, bases_of, reads_of, read_before}
+use Rattle.arrays.specs.Arrays.{Ready, Linked, State, ends_of, firsts_of, writes_of, bases_of, reads_of, read_before}
 use Rattle.arrays.specs.Writers.{writer_of}
-use Rattle.arrays.proofs.Found.{core-right, first_found, found_none, found_some}
+use Rattle.arrays.proofs.Found.{first_found, found_none, found_some}
 use Rattle.arrays.proofs.ArraysLaws.{firsts-array, writes-array, bases-array, reads-array, item-read, item-write}
 use Rattle.note.specs.Firsts.{first_put}
 use Rattle.note.proofs.Steps.{firsts-set, firsts_same, ends-commit, ends-abort, writes-write, bases-again, bases-write, reads-read, reads-write}
@@ -162,37 +157,17 @@ module _ (b : List ℕ) (n : ℕ) (r : Record) (ends firsts writes bases reads l
   unfolding writes_of bases_of reads_of
   state-abort ends' q = ended _ 4 2 q (eqb-false 4 1 refl) (op_of-abort (suc n) r q) (ends-abort (history b n) (suc n) (tx_in r)) refl refl refl
 
--- ---- the next record, which passed
+-- ---- a record that is not malformed
 
-module _ (b : List ℕ) (n m i : ℕ) (r : Record) (k : Ready b n) (o : Opened b m i) (h : n < m) (p : decide (record_order b (n + 1)) ≡ none) where
-  right : RecordRight b (suc n) (history b n)
-  right = clear-record b n (decide-clear (record_order b (suc n)) (rw add-one at p))
+module _ (b : List ℕ) (n : ℕ) (r : Record) (k : Ready b n) (f : malformed (items b) r ≡ false) where
+  pub next-low : tx_in r < 1025
+  next-low = let g = formed-range (items b) r f in omega arith
 
-  pub ready-more : Ready b (n + 1)
-  ready-more =
-      record {
-        long = omega (arith, o.long);
-        few = omega (arith, o.few);
-        items = k.items;
-        passed = λ j l. by_cases (eqb j n) (λ q. let z = eqb-true j n q in rw z (core-right right)) (λ q. let d = eqb-false j n q in k.passed j (omega arith));
-      }
+  pub read-low : r.kind ≡ 1 → r.item.0 < 1024
+  read-low = item-read b n r k f
 
-  pub not_blind-more : NoBlindTo b n → NoBlindTo b (n + 1)
-  not_blind-more f =
-      record { read = λ j l. by_cases (eqb j n) (λ q. let z = eqb-true j n q in rw z right.follows.not_blind) (λ q. let d = eqb-false j n q in f.read j (omega arith)) }
-
-  module _ (e : r ≡ record_at b (n + 1)) where
-    pub next-formed : malformed (items b) r ≡ false
-    next-formed = rw (e, add-one) right.formed
-
-    pub next-low : tx_in r < 1025
-    next-low = let g = formed-range (items b) r next-formed in omega arith
-
-    pub read-low : r.kind ≡ 1 → r.item.0 < 1024
-    read-low = item-read b n r k next-formed
-
-    pub write-low : r.kind ≡ 2 → r.item.0 < 1024
-    write-low = item-write b n r k next-formed
+  pub write-low : r.kind ≡ 2 → r.item.0 < 1024
+  write-low = item-write b n r k f
 
 -- ---- indices
 

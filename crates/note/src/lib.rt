@@ -1,13 +1,15 @@
 // A record that passed, entered in the pass.
 #![tactic(auto)]
 
-ghost use Rattle.std.specs.Prelude.{◌≡◌, cond, ◌+◌, ◌<◌, length, get_or, set};
-ghost use Rattle.std.proofs.Math.Option.{none};
+ghost use Rattle.std.specs.Prelude.{◌≡◌, false, cond, ◌+◌, ◌<◌, length, get_or, set};
 ghost use Rattle.format.specs.Layout.{record_at};
-ghost use Rattle.journal.specs.Orders.{decide, record_order};
+ghost use Rattle.format.specs.Limits.{max_records};
+ghost use Rattle.journal.specs.Journal.{items};
+ghost use Rattle.journal.specs.Refusals.{malformed};
+ghost use Rattle.arrays.specs.Arrays.{Ready, Holds};
 ghost use Rattle.note.specs.Firsts.{first_put};
 
-use arrays::{End, Pass, last_writer};
+use arrays::{End, Kept, Writers, last_writer};
 use format::{Key, Kind, Lsn, Record, TransactionId};
 use lists::Number;
 
@@ -47,32 +49,35 @@ fn note_write(writes: &mut [u32], bases: &mut [u32], reads: &mut [u32], x: Key, 
     }
 }
 
-// The next record, which passed.
-pub fn note(pass: &mut Pass, r: Record)
-    requires next { r ≡ record_at pass.old.journal.bytes.now (pass.old.n + 1) }
-    requires within { pass.old.n < pass.old.journal.records }
-    requires passed { decide (record_order pass.old.journal.bytes.now (pass.old.n + 1)) ≡ none }
-    ensures journal { pass.new.journal ≡ pass.old.journal }
-    ensures more { pass.new.n ≡ pass.old.n + 1 }
+// Record n + 1, after n records that passed; it is not malformed.
+pub fn note(journal: &[u8], n: u32, r: Record, kept: &mut Kept)
+    requires { Ready journal.now n × (n < max_records) × Holds journal.now n kept.old
+        × (malformed (items journal.now) r ≡ false) × (r ≡ record_at journal.now (n + 1)) }
+    ensures { Holds journal.now (n + 1) kept.new }
 {
-    let i = Lsn(pass.n + 1);
+    let i = Lsn(n + 1);
     let s = r.transaction;
     // Told before an array changes, and on the byte: a match would be the one below once more.
-    let again = r.kind == Kind::Write as u8 && last_writer(pass, r.item, s).own;
-    note_first(&mut pass.firsts, s, i);
-    pass.n = i.0;
+    let writers = Writers {
+        journal,
+        n,
+        ends: &kept.ends,
+        writes: &kept.writes,
+    };
+    let again = r.kind == Kind::Write as u8 && last_writer(&writers, r.item, s).own;
+    note_first(&mut kept.firsts, s, i);
     match Kind::try_from(r.kind) {
-        Ok(Kind::Read) => note_read(&mut pass.reads, &mut pass.links, r.item, i),
+        Ok(Kind::Read) => note_read(&mut kept.reads, &mut kept.links, r.item, i),
         Ok(Kind::Write) => note_write(
-            &mut pass.writes,
-            &mut pass.bases,
-            &mut pass.reads,
+            &mut kept.writes,
+            &mut kept.bases,
+            &mut kept.reads,
             r.item,
             i,
             again,
         ),
-        Ok(Kind::Commit) => pass.ends[s.index()] = End::Committed,
-        Ok(Kind::Abort) => pass.ends[s.index()] = End::Aborted,
+        Ok(Kind::Commit) => kept.ends[s.index()] = End::Committed,
+        Ok(Kind::Abort) => kept.ends[s.index()] = End::Aborted,
         Err(_) => {}
     }
 }

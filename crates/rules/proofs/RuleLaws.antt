@@ -10,7 +10,7 @@ use native.Mathlib.Omega.{arith}
 use lib.IntN.{pos}
 use lib.Dec.{eqb}
 use lib.ListN.{get_or}
-use borrow.Author.Tests.{ne_eqb, not-true, not-false}
+use borrow.Author.Tests.{ne_eqb}
 use mir.Syntax.{w32}
 use mir.Val.{to_z, of_z, SFits}
 use mir.ValLaws.{to_z-of_z}
@@ -24,7 +24,7 @@ use Rattle.journal.specs.Refusals.{malformed, terminated, conflicting, blind, mi
 use Rattle.journal.specs.Orders.{Refusal, access_order, rule_order, decide}
 use Rattle.journal.proofs.Records.{tx_of-op_of}
 use Rattle.journal.proofs.Unrefused.{op_of-read, op_of-write}
-use Rattle.journal.proofs.OrdersLaws.{or_else-none, or_else-assoc, decide-try, decide-turn, decide-over}
+use Rattle.journal.proofs.OrdersLaws.{or_else-none, decide-try, decide-turn, decide-over}
 use Rattle.fields.proofs.Fields.{same_bits, formed-range}
 use Rattle.arrays.specs.declared.Touched.{Touched}
 use Rattle.arrays.specs.declared.end.End.{End}
@@ -45,16 +45,21 @@ use Rattle.rules.proofs.Recent.{open-reads, other-writer, other-access}
 abbrev pub at : ℕ → ℕ → Option Refusal
 at k i = some (record { number = k; place = i })
 
--- 7 to 9 of an operation, by their conditions
-abbrev later : Bool → Bool → Bool → ℕ → Option Refusal
-later c b m i = or_else (cond c (at 7 i) none) (or_else (cond b (at 8 i) none) (cond m (at 9 i) none))
+-- 7 and 8 of an operation, by their conditions
+abbrev later : Bool → Bool → ℕ → Option Refusal
+later c b i = or_else (cond c (at 7 i) none) (cond b (at 8 i) none)
 
-rule-parts : (p : History) (i : ℕ) (o : Op)
-    → decide (rule_order p i o) ≡ or_else (cond (terminated p o) (at 6 i) none) (later (conflicting p o) (blind p o) (mismatched p o) i)
-unfolding rule_order access_order
-rule-parts p i o = simp (decide-turn, decide-over, decide-try, or_else-none, or_else-assoc)
+access-parts : (p : History) (i : ℕ) (o : Op)
+    → decide (access_order p i o) ≡ or_else (cond (terminated p o) (at 6 i) none) (later (conflicting p o) (blind p o) i)
+unfolding access_order
+access-parts p i o = simp (decide-turn, decide-over, decide-try, or_else-none)
 
--- ---- rules 6 to 9
+-- 6 to 8, then 9
+rule-parts : (p : History) (i : ℕ) (o : Op) → decide (rule_order p i o) ≡ or_else (decide (access_order p i o)) (cond (mismatched p o) (at 9 i) none)
+unfolding rule_order
+rule-parts p i o = simp (decide-turn, decide-over, decide-try, or_else-none)
+
+-- ---- rules 6 to 8
 
 -- operations of transaction s
 module _ (b : List ℕ) (n s : ℕ) (k : Ready b n) (l : s < 1025) (ends : List End) (g : codes ends ≡ ends_of (history b n)) where
@@ -71,21 +76,21 @@ module _ (b : List ℕ) (n s : ℕ) (k : Ready b n) (l : s < 1025) (ends : List 
     unended = ended-code (history b n) s ∙ rw (← end_is, z)
 
     rest : (o : Op) → tx_of o ≡ s
-        → decide (rule_order (history b n) (n + 1) o) ≡ later (conflicting (history b n) o) (blind (history b n) o) (mismatched (history b n) o) (n + 1)
-    rest o w = rw (rule-parts (history b n) (n + 1) o, terminated-is o w, z)
+        → decide (access_order (history b n) (n + 1) o) ≡ later (conflicting (history b n) o) (blind (history b n) o) (n + 1)
+    rest o w = rw (access-parts (history b n) (n + 1) o, terminated-is o w, z)
 
     module _ (x : ℕ) (t : Touched) (w : t ≡ writer_of (history b n) s x) where
       -- a read
-      read-rest : decide (rule_order (history b n) (n + 1) (read (n + 1) s x)) ≡ cond t.other (at 7 (n + 1)) none
-      unfolding conflicting blind mismatched writer_of
+      read-rest : decide (access_order (history b n) (n + 1) (read (n + 1) s x)) ≡ cond t.other (at 7 (n + 1)) none
+      unfolding conflicting blind writer_of
       read-rest =
           rw (rest (read (n + 1) s x) refl, other-writer (history b n) (passing-history b n k.passed) s x, w)
           (or_else-none (cond (by_other_active (history b n) s (last_write (history b n) x)) (at 7 (n + 1)) none))
 
-      pub read-conflict : t.other ≡ true → at 7 (n + 1) ≡ decide (rule_order (history b n) (n + 1) (read (n + 1) s x))
+      pub read-conflict : t.other ≡ true → at 7 (n + 1) ≡ decide (access_order (history b n) (n + 1) (read (n + 1) s x))
       read-conflict h = rw (read-rest, h)
 
-      pub read-passed : t.other ≡ false → none ≡ decide (rule_order (history b n) (n + 1) (read (n + 1) s x))
+      pub read-passed : t.other ≡ false → none ≡ decide (access_order (history b n) (n + 1) (read (n + 1) s x))
       read-passed h = rw (read-rest, h)
 
       -- a write
@@ -101,27 +106,15 @@ module _ (b : List ℕ) (n s : ℕ) (k : Ready b n) (l : s < 1025) (ends : List 
         unfolding blind writer_of readers_of
         blind-is f = rw (v, w) (ap not (open-reads x s (history b n) (passing-history b n k.passed) (no_blind-history b n f) unended))
 
-        pub write-conflict : u.other ≡ true → at 7 (n + 1) ≡ decide (rule_order (history b n) (n + 1) o)
+        pub write-conflict : u.other ≡ true → at 7 (n + 1) ≡ decide (access_order (history b n) (n + 1) o)
         write-conflict h = rw (rest o refl, conflict-is, h)
 
         module _ (h : u.other ≡ false) (f : NoBlindTo b n) where
-          pub write-blind : u.own ≡ false → at 8 (n + 1) ≡ decide (rule_order (history b n) (n + 1) o)
+          pub write-blind : u.own ≡ false → at 8 (n + 1) ≡ decide (access_order (history b n) (n + 1) o)
           write-blind e = rw (rest o refl, conflict-is, h, blind-is f, e)
 
-          -- d compared with the standing amount
-          module _ (e : u.own ≡ true) (p : Bool) (i : SFits w32 d) (q : p ≡ not (unlike_standing (history b n) x (to_z w32 (of_z w32 d)))) where
-            last-is : decide (rule_order (history b n) (n + 1) o) ≡ cond (unlike_standing (history b n) x d) (at 9 (n + 1)) none
-            unfolding unlike_standing mismatched
-            last-is = rw (rest o refl, conflict-is, h, blind-is f, e)
-
-            unlike : p ≡ not (unlike_standing (history b n) x d)
-            unlike = rw (to_z-of_z w32 d i) at q
-
-            pub write-right : p ≡ true → none ≡ decide (rule_order (history b n) (n + 1) o)
-            write-right y = rw (last-is, not-true (unlike_standing (history b n) x d) (sym unlike ∙ y))
-
-            pub write-wrong : p ≡ false → at 9 (n + 1) ≡ decide (rule_order (history b n) (n + 1) o)
-            write-wrong y = rw (last-is, not-false (unlike_standing (history b n) x d) (sym unlike ∙ y))
+          pub write-right : u.own ≡ true → none ≡ decide (access_order (history b n) (n + 1) o)
+          write-right e = rw (rest o refl, conflict-is, h, blind-is f, e)
 
 -- of a record that is not malformed
 module _ (b : List ℕ) (n m : ℕ) (r : Record) (k : Ready b n) (f : malformed m r ≡ false) where
@@ -130,18 +123,18 @@ module _ (b : List ℕ) (n m : ℕ) (r : Record) (k : Ready b n) (f : malformed 
 
   module _ (ends : List End) (g : codes ends ≡ ends_of (history b n)) where
     -- 6
-    pub rule-terminated : (get_or ends (tx_in r) Open ≡ Committed) ⊎ (get_or ends (tx_in r) Open ≡ Aborted) → at 6 (n + 1) ≡ decide (rule_order (history b n) (n + 1) (op_of (n + 1) r))
-    rule-terminated z =
-        rw (rule-parts (history b n) (n + 1) (op_of (n + 1) r), terminated-is b n (tx_in r) k tx-low ends g (op_of (n + 1) r) (tx_of-op_of (n + 1) r), not-open z)
+    pub access-terminated : (get_or ends (tx_in r) Open ≡ Committed) ⊎ (get_or ends (tx_in r) Open ≡ Aborted) → at 6 (n + 1) ≡ decide (access_order (history b n) (n + 1) (op_of (n + 1) r))
+    access-terminated z =
+        rw (access-parts (history b n) (n + 1) (op_of (n + 1) r), terminated-is b n (tx_in r) k tx-low ends g (op_of (n + 1) r) (tx_of-op_of (n + 1) r), not-open z)
       where
         not-open : (get_or ends (tx_in r) Open ≡ Committed) ⊎ (get_or ends (tx_in r) Open ≡ Aborted) → eqb (code_of (get_or ends (tx_in r) Open)) 0 ≡ false
         not-open (inl e) = rw e
         not-open (inr e) = rw e
 
     -- an end
-    pub rule_end : get_or ends (tx_in r) Open ≡ Open → (r.kind ≡ 1 → ⊥) → (r.kind ≡ 2 → ⊥) → none ≡ decide (rule_order (history b n) (n + 1) (op_of (n + 1) r))
-    unfolding op_of conflicting blind mismatched
-    rule_end z c d =
+    pub access_end : get_or ends (tx_in r) Open ≡ Open → (r.kind ≡ 1 → ⊥) → (r.kind ≡ 2 → ⊥) → none ≡ decide (access_order (history b n) (n + 1) (op_of (n + 1) r))
+    unfolding op_of conflicting blind
+    access_end z c d =
         rw (rest b n (tx_in r) k tx-low ends g z (op_of (n + 1) r) (tx_of-op_of (n + 1) r), ne_eqb r.kind 1 c, ne_eqb r.kind 2 d)
         (two (eqb r.kind 3) (eqb r.kind 4))
       where
@@ -149,21 +142,18 @@ module _ (b : List ℕ) (n m : ℕ) (r : Record) (k : Ready b n) (f : malformed 
         of e g = cond e (commit (n + 1) (tx_in r)) (cond g (abort (n + 1) (tx_in r)) (other (n + 1) (tx_in r)))
 
         two : (e g : Bool)
-            → none ≡ later (rules.conflicting (history b n) (of e g)) (rules.blind (history b n) (of e g)) (rules.mismatched (history b n) (of e g)) (n + 1)
+            → none ≡ later (rules.conflicting (history b n) (of e g)) (rules.blind (history b n) (of e g)) (n + 1)
         two true g = refl
         two false true = refl
         two false false = refl
 
 -- what is found of the read or the write that a record is, is found of the record
 module _ (p : History) (i : Tag) (r : Record) (v : Option Refusal) where
-  pub of-read : r.kind ≡ 1 → v ≡ decide (rule_order p i (read i (tx_in r) r.item.0)) → v ≡ decide (rule_order p i (op_of i r))
+  pub of-read : r.kind ≡ 1 → v ≡ decide (access_order p i (read i (tx_in r) r.item.0)) → v ≡ decide (access_order p i (op_of i r))
   of-read e h = h ∙ rw (op_of-read i r e)
 
-  module _ (e : r.kind ≡ 2) where
-    pub of-write : SFits w32 r.before
-        → ((a : Amount) → v ≡ decide (rule_order p i (write i (tx_in r) r.item.0 (to_z w32 (of_z w32 r.before)) a)))
-        → v ≡ decide (rule_order p i (op_of i r))
-    of-write f h = h r.after ∙ rw (to_z-of_z w32 r.before f, op_of-write i r e)
+  pub of-write : r.kind ≡ 2 → ((d a : Amount) → v ≡ decide (access_order p i (write i (tx_in r) r.item.0 d a))) → v ≡ decide (access_order p i (op_of i r))
+  of-write e h = h r.before r.after ∙ rw (op_of-write i r e)
 
 -- ---- rule 9
 
@@ -181,3 +171,33 @@ module _ (b : List ℕ) (n x j : ℕ) (l : List ℕ) (k : Ready b n) (d : l ≡ 
   pub unlike-written : (s : Amount) → (j ≡ 0 → ⊥) → s ≡ standing (pos 0) (history b n) x → SFits w32 a → SFits w32 s → eqb (of_z w32 a) (of_z w32 s) ≡ not (unlike_standing (history b n) x a)
   unfolding unlike_standing
   unlike-written s y c fa fs = same_bits a s fa fs ∙ rw (written y, c) (sym (not-not (same_amount a (standing (pos 0) (history b n) x))))
+
+-- of a record: what 6 to 8 refuse is refused
+module _ (p : History) (i : Tag) (r : Record) where
+  pub access_refused : (f : Refusal) → some f ≡ decide (access_order p i (op_of i r)) → some f ≡ decide (rule_order p i (op_of i r))
+  access_refused f q = rw (rule-parts p i (op_of i r), ← q)
+
+  -- where they pass it, 9 decides: at a write, its before image m
+  module _ (h : none ≡ decide (access_order p i (op_of i r))) where
+    matched-is : (m : Bool) → r.kind ≡ 2 → SFits w32 r.before → m ≡ not (unlike_standing p r.item.0 (to_z w32 (of_z w32 r.before))) → mismatched p (op_of i r) ≡ not m
+    unfolding unlike_standing mismatched
+    matched-is m e f q = rw (op_of-write i r e, q, to_z-of_z w32 r.before f) (sym (not-not _))
+
+    pub stands-write : (m : Bool) → r.kind ≡ 2 → SFits w32 r.before → m ≡ not (unlike_standing p r.item.0 (to_z w32 (of_z w32 r.before))) → m ≡ true → none ≡ decide (rule_order p i (op_of i r))
+    stands-write m e f q y = rw (rule-parts p i (op_of i r), ← h, matched-is m e f q, y)
+
+    pub differs-write : (m : Bool) → r.kind ≡ 2 → SFits w32 r.before → m ≡ not (unlike_standing p r.item.0 (to_z w32 (of_z w32 r.before))) → m ≡ false → at 9 i ≡ decide (rule_order p i (op_of i r))
+    differs-write m e f q y = rw (rule-parts p i (op_of i r), ← h, matched-is m e f q, y)
+
+    pub stands-other : (r.kind ≡ 2 → ⊥) → none ≡ decide (rule_order p i (op_of i r))
+    unfolding op_of mismatched
+    stands-other d = rw (rule-parts p i (op_of i r), ← h, ne_eqb r.kind 2 d) (three (eqb r.kind 1) (eqb r.kind 3) (eqb r.kind 4))
+      where
+        of : Bool → Bool → Bool → Op
+        of l e g = cond l (read i (tx_in r) r.item.0) (cond e (commit i (tx_in r)) (cond g (abort i (tx_in r)) (other i (tx_in r))))
+
+        three : (l e g : Bool) → none ≡ cond (rules.mismatched p (of l e g)) (at 9 i) none
+        three true e g = refl
+        three false true g = refl
+        three false false true = refl
+        three false false false = refl

@@ -1,18 +1,26 @@
 -- The pass over the records: what holds after i of them, where none was refused.
 -- Assumes nothing.
 use mathlib.Core.Path.{◌≡◌, sym}
+use mathlib.Core.Bool.{false}
 use mathlib.Core.List.{List}
 use mathlib.Core.Option.{none, some}
 use Prim.Native.Nat.{ℕ, suc, ◌+◌, ◌-◌, ◌<◌, ◌≤◌}
 use native.Mathlib.Omega.{arith}
+use native.Mathlib.Numerals.{add-one}
+use lib.Dec.{eqb}
+use borrow.Author.Tests.{eqb-true, eqb-false}
 use Rattle.lists.specs.Tables.{each}
-use Rattle.journal.specs.Journal.{count, history}
+use Rattle.lists.proofs.BoolLaws.{by_cases}
+use Rattle.format.specs.declared.Record.{Record}
+use Rattle.format.specs.Layout.{record_at}
+use Rattle.journal.specs.Journal.{count, items, history}
+use Rattle.journal.specs.Refusals.{malformed}
 use Rattle.journal.specs.Orders.{Refusal, decide, record_order, records_order}
 use Rattle.journal.proofs.OrdersLaws.{loop-done, loop-passed, loop-refused}
 use Rattle.journal.proofs.Clear.{decide-clear, each-clear}
 use Rattle.journal.proofs.Checked.{RecordRight, clear-record}
 use Rattle.fields.specs.Answers.{Opened}
-use Rattle.arrays.specs.Arrays.{Ready}
+use Rattle.arrays.specs.Arrays.{Ready, NoBlindTo}
 use Rattle.arrays.proofs.Found.{core-right}
 
 pub all_left : (b : List ℕ) (n : ℕ) → n ≡ count b → decide (records_order b) ≡ decide (each (record_order b) (0 + 1) (n - 0))
@@ -51,3 +59,25 @@ module _ (b : List ℕ) (n m i : ℕ) (o : Opened b n m) (p : decide (each (reco
 
   pub ready_at : i ≤ n → Ready b i
   ready_at h = record { long = omega (arith, o.long); few = omega (arith, o.few); items = omega (arith, o.keys, o.narrow); passed = λ k l. core-right (right-at k l) }
+
+-- ---- the next record, which passed
+
+module _ (b : List ℕ) (n m i : ℕ) (k : Ready b n) (o : Opened b m i) (h : n < m) (p : none ≡ decide (record_order b (n + 1))) where
+  right : RecordRight b (suc n) (history b n)
+  right = clear-record b n (decide-clear (record_order b (suc n)) (rw add-one at (sym p)))
+
+  pub ready-more : Ready b (n + 1)
+  ready-more =
+      record {
+        long = omega (arith, o.long);
+        few = omega (arith, o.few);
+        items = k.items;
+        passed = λ j l. by_cases (eqb j n) (λ q. let z = eqb-true j n q in rw z (core-right right)) (λ q. let d = eqb-false j n q in k.passed j (omega arith));
+      }
+
+  pub not_blind-more : NoBlindTo b n → NoBlindTo b (n + 1)
+  not_blind-more f =
+      record { read = λ j l. by_cases (eqb j n) (λ q. let z = eqb-true j n q in rw z right.follows.not_blind) (λ q. let d = eqb-false j n q in f.read j (omega arith)) }
+
+  pub next-formed : (r : Record) → r ≡ record_at b (n + 1) → malformed (items b) r ≡ false
+  next-formed r e = rw (e, add-one) right.formed

@@ -61,7 +61,7 @@ fn check_record(pass: &Pass, low: Lsn, r: Record) -> Result<(), Reason>
     if low == i {
         return Err(Reason::Chain(i));
     }
-    judge(pass, r)
+    judge(&pass.seen(), r)
 }
 
 // Rules 4 to 9 of all records, from the first: the lowest record that breaks one is refused, by its lowest number.
@@ -76,7 +76,8 @@ pub fn records(pass: &mut Pass) -> Result<(), Reason>
     for n in 0..journal.records {
         let r = record_at(journal.bytes, Lsn(n + 1));
         check_record(pass, low, r)?;
-        note(pass, r);
+        note(journal.bytes, n, r, &mut pass.kept);
+        pass.n = n + 1;
     }
     Ok(())
 }

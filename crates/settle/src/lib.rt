@@ -5,33 +5,35 @@ ghost use Rattle.std.specs.Prelude.{◌≡◌, not, ◌<◌, length};
 ghost use Rattle.lists.specs.Tables.{count_if};
 ghost use Rattle.format.specs.Limits.{max_items, max_transaction, transaction_slots};
 ghost use Rattle.journal.specs.Inputs.{inputs_of};
+ghost use Rattle.journal.specs.Journal.{count, items};
 ghost use Rattle.journal.specs.Refusals.{unsettled};
 ghost use Rattle.journal.specs.Orders.{decide, settled_order};
 ghost use Rattle.journal.specs.Outcomes.{refusal_in};
 ghost use Rattle.arrays.specs.Ends.{codes};
 ghost use Rattle.settle.specs.Active.{active_in};
 
-use arrays::{End, Pass};
+use arrays::{Amounts, End};
 use format::{Key, TRANSACTIONS_END, TransactionId};
 use journal::Reason;
 use lists::Number;
 use rules::matches_standing;
 
 // Rule 10 at item x: it is unwritten, or its standing amount is the table's.
-fn settled(pass: &Pass, table: &[i32], x: Key) -> bool
-    requires { (pass.now.n ≡ pass.now.journal.records) × (x.0 < max_items) × (x.0 < length table.now) }
-    ensures { result ≡ not (unsettled pass.now.journal.bytes.now table.now x.0) }
+fn settled(amounts: &Amounts, table: &[i32], x: Key) -> bool
+    requires { (amounts.now.writers.n ≡ count amounts.now.writers.journal.now) × (x.0 < max_items) × (x.0 < length table.now) }
+    ensures { result ≡ not (unsettled amounts.now.writers.journal.now table.now x.0) }
 {
-    matches_standing(pass, x, table[x.index()])
+    matches_standing(amounts, x, table[x.index()])
 }
 
 // Rule 10, lowest item first, where all records passed. The table is lent as a slice: 3 has refused one of another length.
-pub fn final_state(pass: &Pass, table: &[i32]) -> Result<(), Reason>
-    requires { (pass.now.n ≡ pass.now.journal.records) × (length table.now ≡ pass.now.journal.items) }
-    ensures { refusal_in result ≡ decide (settled_order (inputs_of pass.now.journal.bytes.now table.now)) }
+pub fn final_state(amounts: &Amounts, table: &[i32]) -> Result<(), Reason>
+    requires { (amounts.now.writers.n ≡ count amounts.now.writers.journal.now)
+        × (length table.now ≡ items amounts.now.writers.journal.now) }
+    ensures { refusal_in result ≡ decide (settled_order (inputs_of amounts.now.writers.journal.now table.now)) }
 {
-    for x in 0..pass.journal.items {
-        if !settled(pass, table, Key(x)) {
+    for x in 0..table.len() as u32 {
+        if !settled(amounts, table, Key(x)) {
             return Err(Reason::FinalState(Key(x)));
         }
     }

@@ -37,7 +37,7 @@ pub fn verify_opened(pass: &mut Pass, table: &[i32]) -> Result<(), Reason>
     ensures all { OnOk result (pass.new.n ≡ pass.old.journal.records) }
 {
     verify_records(pass, table)?;
-    final_state(pass, table)
+    final_state(&pass.seen().amounts(), table)
 }
 
 // How many transactions are active, or the first refusal of 1 to 10 in document 01's order.
@@ -46,5 +46,5 @@ pub fn check(journal: &[u8], table: &[i32]) -> Result<u32, Reason>
 {
     let mut pass = Pass::new(header(journal)?);
     verify_opened(&mut pass, table)?;
-    Ok(active_count(&pass.ends, &pass.firsts))
+    Ok(active_count(&pass.kept.ends, &pass.kept.firsts))
 }

@@ -4,7 +4,7 @@ use Rattle.std.proofs.lemmas.Result.{err_from_is_err_and}
 use Rattle.counts.specs.Answers.{record_counts_of}
 use Rattle.fields.proofs.HeadLaws.{opened-count}
 use Rattle.validate.proofs.Whole.{head_refused, verified_decides}
-use Rattle.append.proofs.Planning.{plan-refused, plan-matched, plan-barred, plan-entered}
+use Rattle.append.proofs.Planning.{plan-refused, plan-barred, plan-entered}
 use Rattle.append.proofs.prepare.Goals as goal
 
 pub returns-in_err-header : goal.returns-in_err-header
@@ -21,11 +21,9 @@ returns-in_err-verify_opened c =
 
 pub judge_entry-requires : goal.judge_entry-requires
 judge_entry-requires c =
-    let h = c.in_ok-header.ensures in
-    let j = c.new-pass.ensures.journal in
     let v = c.in_ok-verify_opened.ensures in
-    let e = rw (j, h.bytes) at v.answer in
-    (v.all ∙ ap (λ j. j.records) (sym v.journal), rw (v.journal, j, h.bytes) (plan-matched _ _ (record_counts_of c.args.counts) c.args.r (verified_decides _ _ _ _ h.answer e) c.requires))
+    let p = c.verify_opened.new.pass in
+    rw (c.seen.ensures.n, c.seen.ensures.journal) (v.all ∙ ap (λ j. j.records) (sym v.journal) ∙ p.journal.opened.counted, p.journal.opened.keys)
 
 pub returns-in_err-judge_entry : goal.returns-in_err-judge_entry
 returns-in_err-judge_entry c =
@@ -34,7 +32,7 @@ returns-in_err-judge_entry c =
     let j = c.new-pass.ensures.journal in
     let v = c.in_ok-verify_opened.ensures in
     let e = rw (j, h.bytes) at v.answer in
-    let f = rw (v.journal, j, h.bytes) at c.in_err-judge_entry.ensures in
+    let f = rw (c.seen.ensures.journal, v.journal, j, h.bytes) at c.in_err-judge_entry.ensures in
     rw (p.1, p.2) (plan-barred _ _ _ _ (verified_decides _ _ _ _ h.answer e) _ f)
 
 pub returns : goal.returns
@@ -44,5 +42,5 @@ returns c =
     let v = c.in_ok-verify_opened.ensures in
     let e = rw (j, h.bytes) at v.answer in
     let n = opened-count _ _ _ _ v.all j h.bytes in
-    let f = rw (v.journal, j, h.bytes) at c.in_ok-judge_entry.ensures in
+    let f = rw (c.seen.ensures.journal, v.journal, j, h.bytes) at c.in_ok-judge_entry.ensures in
     plan-entered _ _ _ _ (verified_decides _ _ _ _ h.answer e) _ n f

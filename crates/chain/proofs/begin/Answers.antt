@@ -26,4 +26,4 @@ returns c =
     let p = c.records.new.pass in
     let k = rw (v.journal, j, h.bytes) at p.ready in
     let f = rw (v.journal, j, h.bytes) at p.state.begun in
-    begin-passed _ _ _ h.answer p.n p.firsts _ k n f e c.first_of.ensures
+    begin-passed _ _ _ h.answer p.n p.kept.firsts _ k n f e c.first_of.ensures

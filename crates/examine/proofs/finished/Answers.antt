@@ -11,13 +11,13 @@ loop-s-init c = search active-start
 pub returns-then-is_active : goal.returns-then-is_active
 returns-then-is_active c =
     let p = c.args.pass.now in
-    let a = c.is_active.ensures ∙ active-at p.journal.bytes.now p.n c.loop-s.s p.ends p.firsts p.state.ended p.state.begun (omega arith) in
+    let a = c.is_active.ensures ∙ active-at p.journal.bytes.now p.n c.loop-s.s p.kept.ends p.kept.firsts p.state.ended p.state.begun (omega arith) in
     search active-refused
 
 pub loop-s-preserved : goal.loop-s-preserved
 loop-s-preserved c =
     let p = c.args.pass.now in
-    let a = c.is_active.ensures ∙ active-at p.journal.bytes.now p.n c.loop-s.s p.ends p.firsts p.state.ended p.state.begun (omega arith) in
+    let a = c.is_active.ensures ∙ active-at p.journal.bytes.now p.n c.loop-s.s p.kept.ends p.kept.firsts p.state.ended p.state.begun (omega arith) in
     search active-passed
 
 pub returns : goal.returns

@@ -1,34 +1,29 @@
-use mathlib.Core.Path.{◌≡◌}
 use borrow.Author.Rules.{rules}
+use Rattle.std.proofs.lemmas.Result.{err_from_is_err_and}
+use Rattle.fields.proofs.Fields.{formed-item-write}
 use native.Mathlib.Omega.{arith}
-use Rattle.fields.proofs.Fields.{formed-item-read, formed-item-write}
-use Rattle.rules.proofs.RuleLaws.{tx-low, rule-terminated, rule_end, of-read, of-write}
+use mathlib.Core.Path.{◌≡◌}
+use Rattle.rules.proofs.RuleLaws.{access_refused, stands-write, differs-write, stands-other}
 use Rattle.rules.proofs.judge.Goals as goal
 
-pub bounds : goal.bounds
-bounds c = rw c.index.ensures (search tx-low)
+pub returns-in_err-judge_access : goal.returns-in_err-judge_access
+returns-in_err-judge_access c =
+    let p = err_from_is_err_and c.from_residual.result c.from_residual.ensures.1 in
+    rw (p.1, p.2) (access_refused _ _ c.args.r _ c.in_err-judge_access.ensures)
 
-pub returns-in-Committed : goal.returns-in-Committed
-returns-in-Committed c = search (rule-terminated, rules)
-
-pub judge_read-requires : goal.judge_read-requires
-judge_read-requires c =
-    let x = formed-item-read _ c.args.r c.requires (search rules) in
-    (omega (arith, c.args.pass.now.journal.opened.narrow), search tx-low, search rules)
-
-pub judge_write-requires : goal.judge_write-requires
-judge_write-requires c =
+pub matches_standing-requires : goal.matches_standing-requires
+matches_standing-requires c =
     let x = formed-item-write _ c.args.r c.requires (search rules) in
-    (omega (arith, c.args.pass.now.journal.opened.narrow), search tx-low, search rules)
+    omega (arith, c.args.seen.now.touches.writers.ready.items)
 
-pub returns-in-Ok-Read : goal.returns-in-Ok-Read
-returns-in-Ok-Read c = search (of-read, rules)
+pub returns-then-matches_standing : goal.returns-then-matches_standing
+returns-then-matches_standing c = let k : c.args.r.kind ≡ 2 = search rules in search (stands-write, rules)
 
-pub returns-in-Ok-Write : goal.returns-in-Ok-Write
-returns-in-Ok-Write c = let k : c.args.r.kind ≡ 2 = search rules in search (of-write, rules)
+pub returns-else-matches_standing : goal.returns-else-matches_standing
+returns-else-matches_standing c = let k : c.args.r.kind ≡ 2 = search rules in search (differs-write, rules)
 
-pub returns-in-Ok-Commit : goal.returns-in-Ok-Commit
-returns-in-Ok-Commit c = search (rule_end, rules)
+pub returns-in_default : goal.returns-in_default
+returns-in_default c = search (stands-other, rules)
 
-pub returns-in-Ok-Commit-2 : goal.returns-in-Ok-Commit-2
-returns-in-Ok-Commit-2 c = search (rule_end, rules)
+pub returns-in_default-2 : goal.returns-in_default-2
+returns-in_default-2 c = search (stands-other, rules)

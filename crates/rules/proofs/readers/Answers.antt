@@ -5,7 +5,7 @@ use Rattle.rules.proofs.ReadersLaws.{walked_start, walked-long, walked-range, wa
 use Rattle.rules.proofs.readers.Goals as goal
 
 pub loop-k-init : goal.loop-k-init
-loop-k-init c = let q = ap (λ i. get_or c.args.pass.now.reads i 0) c.index.ensures in search walked_start
+loop-k-init c = let q = ap (λ i. get_or c.args.touches.now.reads.now i 0) c.index.ensures in search walked_start
 
 pub transaction_at-v-requires : goal.transaction_at-v-requires
 transaction_at-v-requires c = search walked-long
@@ -17,7 +17,7 @@ pub loop-k-smaller : goal.loop-k-smaller
 loop-k-smaller c = search (walked-less, rules)
 
 pub loop-k-preserved : goal.loop-k-preserved
-loop-k-preserved c = let q = ap (λ i. get_or c.args.pass.now.links i 0) c.index-in-loop-k.ensures in search walked_step
+loop-k-preserved c = let q = ap (λ i. get_or c.args.touches.now.links.now i 0) c.index-in-loop-k.ensures in search walked_step
 
 pub returns : goal.returns
 returns c = search walked_end

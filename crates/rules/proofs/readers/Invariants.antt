@@ -3,7 +3,7 @@ use Rattle.rules.proofs.ReadersLaws.{Walked}
 use Rattle.rules.proofs.readers.Given as goal
 
 abbrev pub invariant-loop-k : goal.invariant-loop-k
-invariant-loop-k l = Walked l.pass.journal.bytes.now l.pass.n l.s.0 l.fn.x.0 l.fn.found l.k.0 l.all
+invariant-loop-k l = Walked l.journal l.touches.writers.n l.s.0 l.fn.x.0 l.fn.found l.k.0 l.all
 
 abbrev pub decreases-loop-k : goal.decreases-loop-k
 decreases-loop-k l = l.k.0

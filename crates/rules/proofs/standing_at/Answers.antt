@@ -19,13 +19,13 @@ record_at-last-requires c = search (last-long, rules)
 
 pub returns-in-Aborted : goal.returns-in-Aborted
 returns-in-Aborted c =
-    let q = ap (λ i. get_or c.args.pass.now.writes i 0) c.index.ensures in
+    let q = ap (λ i. get_or c.args.amounts.now.writers.writes.now i 0) c.index.ensures in
     let t = c.index-2.ensures ∙ c.transaction_at-v.ensures in
-    let p = ap (λ i. get_or c.args.pass.now.bases i 0) c.index-in-Aborted.ensures in
+    let p = ap (λ i. get_or c.args.amounts.now.bases.now i 0) c.index-in-Aborted.ensures in
     search (standing-before, rules)
 
 pub returns-in-Open : goal.returns-in-Open
 returns-in-Open c =
-    let q = ap (λ i. get_or c.args.pass.now.writes i 0) c.index.ensures in
+    let q = ap (λ i. get_or c.args.amounts.now.writers.writes.now i 0) c.index.ensures in
     let t = c.index-2.ensures ∙ c.transaction_at-v.ensures in
     search (standing-after, rules)

@@ -11,4 +11,7 @@ pub returns-then-eq : goal.returns-then-eq
 returns-then-eq c = search (record-chain, rules)
 
 pub returns : goal.returns
-returns c = let z = eqb-false _ _ (sym c.eq.ensures ∙ c.if-eq.false) in search record-rest
+returns c =
+    let z = eqb-false _ _ (sym c.eq.ensures ∙ c.if-eq.false) in
+    let j = rw (c.seen.ensures.journal, c.seen.ensures.n) at c.judge.ensures in
+    search record-rest

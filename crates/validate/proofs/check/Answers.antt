@@ -26,5 +26,5 @@ returns c =
     let e = rw (j, h.bytes) at v.answer in
     let n = opened-count _ _ _ _ v.all j h.bytes in
     let p = c.verify_opened.new.pass in
-    let a = c.active_count.ensures ∙ active-number p.journal.bytes.now p.n p.ends p.firsts p.state.ended p.state.begun in
+    let a = c.active_count.ensures ∙ active-number p.journal.bytes.now p.n p.kept.ends p.kept.firsts p.state.ended p.state.begun in
     check_accepted _ _ _ _ (verified_decides _ _ _ _ h.answer e) n (rw (v.journal, j, h.bytes) at a)

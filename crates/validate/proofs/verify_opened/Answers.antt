@@ -10,6 +10,7 @@ returns-in_err-verify_records-clause-answer c =
 
 pub returns-clause-answer : goal.returns-clause-answer
 returns-clause-answer c =
-    let e = c.in_ok-verify_records.ensures.answer in
-    let f = rw c.in_ok-verify_records.ensures.journal at c.final_state.ensures in
+    let v = c.in_ok-verify_records.ensures in
+    let e = v.answer in
+    let f = rw (c.amounts.ensures.writers, c.seen.ensures.journal, v.journal) at c.final_state.ensures in
     search final_decides
