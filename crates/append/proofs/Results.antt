@@ -11,7 +11,7 @@ use mir.ValLaws.{to_z-of_z}
 use Rattle.std.specs.Prelude.{Ok, Err}
 use Rattle.format.specs.declared.Record.{Record}
 use Rattle.model.specs.History.{Amount}
-use Rattle.journal.specs.Inputs.{inputs_of}
+use Rattle.journal.specs.Inputs.{Inputs}
 use Rattle.journal.specs.declared.Reason.{Reason}
 use Rattle.journal.specs.Reasons.{number_of, place_of}
 use Rattle.journal.specs.Journal.{count, op_of, history, whole}
@@ -37,40 +37,40 @@ from_bits t kind s x a r f e = e ∙ rw (to_z-of_z w32 a f)
 
 -- ---- refused, or done
 
-module _ (b : List ℕ) (t : List Amount) (kind s x : ℕ) (a : Amount) (c : Counts) (r : Record) (e : r ≡ new_record t kind s x a) where
-  pub append-refused : (why : Reason) → refused (number_of why) (place_of why) ≡ answered (decide (append_order (inputs_of b t) (record_counts_of c) r)) (count b)
-      → Appends c (inputs_of b t) kind s x a (Err why) c b t
+module _ (d : Inputs) (kind s x : ℕ) (a : Amount) (c : Counts) (r : Record) (e : r ≡ new_record d.table kind s x a) where
+  pub append-refused : (why : Reason) → refused (number_of why) (place_of why) ≡ answered (decide (append_order d (record_counts_of c) r)) (count d.journal)
+      → Appends c d kind s x a (Err why) c d.journal d.table
   unfolding append
   append-refused why q =
-      let z = refused-only _ _ (decide (append_order (inputs_of b t) (record_counts_of c) r)) _ q in
-      let d : decide (append_order (inputs_of b t) (record_counts_of c) (new_record t kind s x a)) ≡ some (record { number = number_of why; place = place_of why }) = rw (← e) z in
-      record { answer = rw d; counts = rw d; journal = rw d; table = rw d }
+      let z = refused-only _ _ (decide (append_order d (record_counts_of c) r)) _ q in
+      let y : decide (append_order d (record_counts_of c) (new_record d.table kind s x a)) ≡ some (record { number = number_of why; place = place_of why }) = rw (← e) z in
+      record { answer = rw y; counts = rw y; journal = rw y; table = rw y }
 
-  module _ (n : ℕ) (q : accepted n ≡ answered (decide (append_order (inputs_of b t) (record_counts_of c) r)) (count b)) where
-    passes : (decide (append_order (inputs_of b t) (record_counts_of c) r) ≡ none) × (n ≡ count b)
-    passes = accepted-only (decide (append_order (inputs_of b t) (record_counts_of c) r)) n (count b) q
+  module _ (n : ℕ) (q : accepted n ≡ answered (decide (append_order d (record_counts_of c) r)) (count d.journal)) where
+    passes : (decide (append_order d (record_counts_of c) r) ≡ none) × (n ≡ count d.journal)
+    passes = accepted-only (decide (append_order d (record_counts_of c) r)) n (count d.journal) q
 
-    pub append-admitted : Admitted b t c n r
+    pub append-admitted : Admitted d.journal d.table c n r
     append-admitted =
-        let (k, w, f) = clear-appended (inputs_of b t) (record_counts_of c) r (decide-clear _ passes.0) in
-        let m = room b f.room in
+        let (k, w, f) = clear-appended d (record_counts_of c) r (decide-clear _ passes.0) in
+        let m = room d.journal f.room in
         rw passes.1
         (record {
-          ready = checked-ready b t (clear-decide (checks-clear (inputs_of b t) k));
+          ready = checked-ready d (clear-decide (checks-clear d k));
           counted = refl;
-          table = table-length b t k.table;
+          table = table-length d.journal d.table k.table;
           formed = f.formed;
           small = m.0;
           room = m.1;
-          few = agreed-few b c (count-bound b k.sound.head) w;
+          few = agreed-few d.journal c (count-bound d.journal k.sound.head) w;
         })
 
-    pub append-done : (d : Counts) (b' : List ℕ) (t' : List Amount) → record_counts_of d ≡ raised r.kind (record_counts_of c) → b' ≡ extended b r → t' ≡ applied_table (history b n) (op_of (n + 1) r) t
-        → Appends c (inputs_of b t) kind s x a (Ok tt) d b' t'
+    pub append-done : (c' : Counts) (b' : List ℕ) (t' : List Amount) → record_counts_of c' ≡ raised r.kind (record_counts_of c) → b' ≡ extended d.journal r → t' ≡ applied_table (history d.journal n) (op_of (n + 1) r) d.table
+        → Appends c d kind s x a (Ok tt) c' b' t'
     unfolding append whole
-    append-done d b' t' u v w =
-        let z : decide (append_order (inputs_of b t) (record_counts_of c) (new_record t kind s x a)) ≡ none = rw (← e) passes.0 in
-        let i : suc (count b) ≡ n + 1 = omega (arith, passes.1) in
+    append-done c' b' t' u v w =
+        let z : decide (append_order d (record_counts_of c) (new_record d.table kind s x a)) ≡ none = rw (← e) passes.0 in
+        let i : suc (count d.journal) ≡ n + 1 = omega (arith, passes.1) in
         record {
           answer = rw z;
           counts = rw z (u ∙ rw e);

@@ -13,7 +13,7 @@ use Rattle.format.specs.declared.Record.{Record}
 use Rattle.model.specs.History.{Op, History, Tag, read, write, commit, abort, other, tag_in}
 use Rattle.journal.specs.Journal.{items, tx_in, op_of}
 use Rattle.journal.specs.Refusals.{malformed}
-use Rattle.fields.proofs.Fields.{formed-item-read, formed-item-write}
+use Rattle.journal.proofs.Passing.{malformed-item}
 use Rattle.arrays.specs.Recent.{end_code, first_tag, last_write, base_write, reads_since, newest}
 use Rattle.arrays.specs.Arrays.{Ready, ends_of, firsts_of, writes_of, bases_of, reads_of}
 
@@ -60,7 +60,7 @@ by-access P i r a b c d e =
 
 module _ (b : List ℕ) (n : ℕ) (r : Record) (k : Ready b n) (f : malformed (items b) r ≡ false) where
   pub item-read : r.kind ≡ 1 → r.item.0 < 1024
-  item-read e = let a = formed-item-read (items b) r f e in omega (arith, k.items)
+  item-read e = let a = malformed-item (items b) r f (omega arith) in omega (arith, k.items)
 
   pub item-write : r.kind ≡ 2 → r.item.0 < 1024
-  item-write e = let a = formed-item-write (items b) r f e in omega (arith, k.items)
+  item-write e = let a = malformed-item (items b) r f (omega arith) in omega (arith, k.items)

@@ -1,24 +1,25 @@
 -- What is found in a journal's history is the record with its number; the transactions of records that passed are 1 to 1,024.
 -- Assumes nothing.
 use mathlib.Core.Path.{◌≡◌, refl, sym, ◌∙◌}
-use mathlib.Core.Bool.{Bool, true, false, cond, ◌&&◌}
+use mathlib.Core.Bool.{Bool, true, false, cond, not}
 use mathlib.Core.List.{List, ◌∷◌}
-use mathlib.Core.Option.{Option, none, some}
+use mathlib.Core.Option.{Option, none, some, none-ne-some}
 use Prim.Native.Nat.{ℕ, zero, suc, ◌<◌, ◌≤◌}
 use native.Mathlib.Omega.{arith}
-use lib.Dec.{eqb, leb}
-use borrow.Author.Tests.{not-false, leb-true}
-use Rattle.lists.specs.Search.{latest, or_else, first}
-use Rattle.lists.proofs.BoolLaws.{and_left, and_right}
-use Rattle.format.specs.declared.Record.{Record}
+use lib.Dec.{eqb}
+use borrow.Author.Tests.{ne_eqb}
+use Rattle.lists.specs.Search.{any, latest, or_else, first}
+use Rattle.lists.proofs.BoolLaws.{by_cases}
+use Rattle.lists.proofs.SearchLaws.{first-none, first_some}
 use Rattle.format.specs.Layout.{record_at}
 use Rattle.model.specs.History.{Op, History, read, write, commit, abort, other, tag_in}
 use Rattle.model.proofs.Legal.{NoBlindWrites}
 use Rattle.model.proofs.Opening.{Passing, start, step}
 use Rattle.journal.specs.Journal.{items, tx_in, op_of, history}
-use Rattle.journal.specs.Refusals.{within, malformed, terminated, conflicting, blind, mismatched}
+use Rattle.journal.specs.Refusals.{terminated, conflicting, blind, mismatched}
 use Rattle.journal.proofs.Checked.{RecordRight}
 use Rattle.journal.proofs.Records.{tag_of-op_of}
+use Rattle.journal.proofs.Passing.{malformed-tx}
 use Rattle.arrays.specs.Recent.{by_tx, last_write, base_write}
 use Rattle.arrays.specs.Arrays.{CoreRight, NoBlindTo}
 
@@ -76,6 +77,14 @@ pub found_some : {b : List ℕ} {n : ℕ} {o : Option Op} → Found b n o → (t
 found_some nothing e = absurd (e refl)
 found_some {b} (at t l m) e = rw (tag_of-op_of t (record_at b t))
 
+-- one is there, or the number of the first is 0
+pub first_any : (f : Op → Bool) (b : List ℕ) (n : ℕ) → any f (history b n) ≡ not (eqb (tag_in (first f (history b n))) 0)
+first_any f b n =
+    by_cases (any f (history b n))
+    (λ e. let (w, q, t) = first_some f (history b n) e in
+    rw (e, ne_eqb (tag_in (first f (history b n))) 0 (λ z. none-ne-some w (sym (found_none (first_found f b n) z) ∙ q))))
+    (λ e. rw (e, first-none f (history b n) e))
+
 -- ---- records that passed
 
 pub core-right : {b : List ℕ} {i : ℕ} {p : History} → RecordRight b i p → CoreRight b i p
@@ -87,14 +96,8 @@ module _ (b : List ℕ) (n : ℕ) (k : (i : ℕ) → i < n → CoreRight b (suc 
 
   -- their transactions are 1 to 1,024
   pub passed-range : (i : ℕ) → 1 ≤ i → i ≤ n → (1 ≤ tx_in (record_at b i)) × (tx_in (record_at b i) ≤ 1024)
-  unfolding malformed
   passed-range zero l h = absurd (omega arith)
-  passed-range (suc i) l h = ranged (record_at b (suc i)) (passed-right i (omega arith)).formed
-    where
-      ranged : (r : Record) → malformed (items b) r ≡ false → (1 ≤ tx_in r) × (tx_in r ≤ 1024)
-      ranged r e =
-          let a = and_right (eqb r.reserved 0) _ (and_left (eqb r.reserved 0 && within 1 1024 (tx_in r)) _ (not-false _ e)) in
-          (leb-true _ _ (and_left (leb 1 (tx_in r)) _ a), leb-true _ _ (and_right (leb 1 (tx_in r)) _ a))
+  passed-range (suc i) l h = malformed-tx (items b) (record_at b (suc i)) (passed-right i (omega arith)).formed
 
   -- they are a history that passes
   passing-to : (m : ℕ) → m ≤ n → Passing (history b m)

@@ -45,7 +45,7 @@ module _ (ends : List End) (s v : ℕ) (f : Touched) where
 
 -- ---- the last writer
 
-abbrev pub nobody : Touched
+abbrev nobody : Touched
 nobody = record { other = false; own = false }
 
 module _ (b : List ℕ) (n x w : ℕ) (l : List ℕ) (k : Ready b n) (e : l ≡ writes_of (history b n)) (h : x < 1024) (q : w ≡ get_or l x 0) where

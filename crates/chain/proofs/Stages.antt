@@ -1,9 +1,9 @@
 -- The stages of the walk, one after the other: the head, the records, the first record, the room.
 -- Assumes nothing.
 use mathlib.Core.Path.{◌≡◌, refl, sym, ◌∙◌, ap}
-use mathlib.Core.Bool.{Bool, true, false, cond}
+use mathlib.Core.Bool.{Bool, true, false, cond, not, not-not}
 use mathlib.Core.List.{List, [], ◌∷◌}
-use mathlib.Core.Option.{Option, none, some, none-ne-some}
+use mathlib.Core.Option.{Option, none, some}
 use Prim.Native.Nat.{ℕ, ◌<◌, ◌≤◌}
 use native.Mathlib.Omega.{arith}
 use lib.Dec.{eqb, ltb}
@@ -32,7 +32,7 @@ use Rattle.fields.specs.Answers.{Size, size_of}
 use Rattle.arrays.specs.Recent.{first_tag}
 use Rattle.arrays.specs.Arrays.{Ready, firsts_of}
 use Rattle.arrays.proofs.ArraysLaws.{firsts-array}
-use Rattle.arrays.proofs.Found.{Found, at, first_found, found_none, found-bound, core-right, passed-range}
+use Rattle.arrays.proofs.Found.{Found, at, first_found, first_any, found-bound, core-right, passed-range}
 use Rattle.chain.specs.Answers.{first_in, first_order, begin_order, walk_from}
 
 -- ---- 12: the first record
@@ -73,11 +73,7 @@ first-array b n s l r e =
 
 absent-first : (b : List ℕ) (s : ℕ) → absent b s ≡ eqb (first_tag (whole b) s) 0
 unfolding absent whole
-absent-first b s =
-    by_cases (any (of_tx s) (history b (count b)))
-    (λ e. let (w, q, t) = first_some (of_tx s) (history b (count b)) e in
-    rw (e, ne_eqb (first_tag (history b (count b)) s) 0 (λ z. none-ne-some w (sym (found_none (first_found (of_tx s) b (count b)) z) ∙ q))))
-    (λ e. rw (e, first-none (of_tx s) (history b (count b)) e))
+absent-first b s = ap not (first_any (of_tx s) b (count b)) ∙ not-not _
 
 module _ (b : List ℕ) (s : ℕ) where
   first-parts : decide (first_order b s) ≡ or_else (decide (records_order b)) (decide (try 12 0 (absent b s)))

@@ -59,7 +59,7 @@ unfolding wrong_counts
 counts-right b c e = rw e (ap not (same_counts-refl (counts_by_kind (whole b))))
 
 -- the record that a post would add
-abbrev pub call_record : AppendState → AppendCall → Record
+abbrev call_record : AppendState → AppendCall → Record
 call_record d p = new_record d.inputs.table p.kind p.tx p.item p.after
 
 -- a refused post leaves the state as it is
@@ -77,7 +77,7 @@ unfolding append
 appended-clear d p e = decide-clear _ (answered-none _ _ e)
 
 module _ (d : AppendState) (p : AppendCall) where
-  pub enters-clear : Good d → Enters d.inputs.journal (call_record d p) → Clear (append_order d.inputs d.counts (call_record d p))
+  enters-clear : Good d → Enters d.inputs.journal (call_record d p) → Clear (append_order d.inputs d.counts (call_record d p))
   enters-clear g e = append-clear d.inputs d.counts (call_record d p) g.checks (counts-right d.inputs.journal d.counts g.counts) e
 
   module _ (c : Clear (append_order d.inputs d.counts (call_record d p))) where
@@ -136,7 +136,7 @@ module _ (d : AppendState) (p : AppendCall) (g : Good d) (c : Clear (append_orde
   opening-next =
       rw (next-journal d p c, next-table d p c) (opening-extended d.inputs (call_record d p) g.checks enters f refl (entry-before d p))
 
-  pub fits_next : ((x : ℕ) → SFits w32 (amount_at d.inputs.table x)) → (x : ℕ) → SFits w32 (amount_at (append_state_after d p).inputs.table x)
+  fits_next : ((x : ℕ) → SFits w32 (amount_at d.inputs.table x)) → (x : ℕ) → SFits w32 (amount_at (append_state_after d p).inputs.table x)
   fits_next h x = rw (next-table d p c) (fits-applied_table d.inputs.journal d.inputs.table (suc (count d.inputs.journal)) (call_record d p) g.bytes f h x)
 
 -- ---- a run of posts

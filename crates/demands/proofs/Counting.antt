@@ -23,7 +23,7 @@ counted : (d : Inputs) → Pass d → count_records d.journal ≡ accepted (coun
 unfolding count_records
 counted d h = let k = (pass-checks d h).sound in rw (clear-decide (open-clear d.journal k.long k.head k.full))
 
-counts-is : (b : List ℕ) (c : RecordCounts) → count_records b ≡ accepted c → c ≡ counts_by_kind (whole b)
+pub counts-is : (b : List ℕ) (c : RecordCounts) → count_records b ≡ accepted c → c ≡ counts_by_kind (whole b)
 unfolding count_records
 counts-is b c e = (accepted-only (decide (open_order b)) c (counts_by_kind (whole b)) (sym e)).1
 

@@ -14,7 +14,7 @@ use Rattle.model.specs.History.{of_tx, write_to, committed, ended}
 use Rattle.model.specs.Undo.{is_source, surviving, repaired}
 use Rattle.model.proofs.ReadsFromLaws.{is_source-test}
 use Rattle.model.proofs.Legal.{stand, Legal}
-use Rattle.model.proofs.Repair.{survivors-legal, stand-unwritten}
+use Rattle.model.proofs.Repair.{survivors-legal, no_blind-fed, stand-unwritten}
 use Rattle.model.proofs.Amounts.{same-eq}
 use Rattle.model.proofs.Opening.{standing-legal}
 use Rattle.journal.specs.Inputs.{Inputs, handed_on}
@@ -43,7 +43,7 @@ module _ (d : Inputs) (bytes : Bytes d.journal) (ok : Checks d) (bad : List ℕ)
   keeps =
       record {
         commits = λ s h. and_left (committed (whole b) s) _ h;
-        legal = survivors-legal is_source is_source-test (opening_at d) bad (whole b) (legal-day d bytes ok) (no_blind-whole b ok.sound);
+        legal = survivors-legal is_source is_source-test (opening_at d) bad (whole b) (legal-day d bytes ok) (no_blind-fed is_source is_source-test (opening_at d) bad (whole b) (legal-day d bytes ok) (no_blind-whole b ok.sound));
       }
 
   -- ---- the copy

@@ -1,7 +1,7 @@
 -- The reads-from rule of specs/ReadsFrom.antt, proved.
 -- Assumes nothing.
 use mathlib.Core.Path.{◌≡◌, refl, ap, ◌∙◌}
-use mathlib.Core.Bool.{Bool, true, false, not, ◌&&◌, and-true}
+use mathlib.Core.Bool.{Bool, true, false, not, ◌&&◌}
 use mathlib.Core.List.{[], ◌∷◌, head-eq_of_cons-eq}
 use mathlib.Core.Option.{Option, none, some, none-ne-some, some-injective}
 use Prim.Native.Nat.{ℕ, ◌≤◌}
@@ -64,17 +64,19 @@ module _ (f : Op → Bool) where
 
 module _ (p : History) (s x : ℕ) where
   source-passes : {w : Op} → Source p s x w → source_by is_source (visible_to p s) x w ≡ true
-  source-passes (by_itself {i} {b} {a}) =
-      and_from _ _ (and_from _ _ (eq-eqb x x refl) (or_left (eqb s s) (committed p s) (eq-eqb s s refl))) (is_source-write i s x b a)
-  source-passes (by-committed {i} {v} {b} {a} c) =
-      and_from _ _ (and_from _ _ (eq-eqb x x refl) (or_right (eqb s v) (committed p v) c)) (is_source-write i v x b a)
+  source-passes (by_itself n) =
+      and_from _ _ (and_from _ _ (eq-eqb x x refl) (or_left (eqb s s) (committed p s) (eq-eqb s s refl))) n
+  source-passes (by-committed {i} {v} n c) =
+      and_from _ _ (and_from _ _ (eq-eqb x x refl) (or_right (eqb s v) (committed p v) c)) n
 
   passes-source : (w : Op) → source_by is_source (visible_to p s) x w ≡ true → Source p s x w
   passes-source (read i v y) e = clash e refl
   passes-source (write i v y b a) e =
       let h = and_left (eqb x y && visible_to p s v) _ e in
-      rw (← eqb-true x y (and_left (eqb x y) _ h))
-      (or_cases (eqb s v) (committed p v) (and_right (eqb x y) _ h) (λ q. rw (← eqb-true s v q) by_itself) by-committed)
+      let xy = eqb-true x y (and_left (eqb x y) _ h) in
+      let n : is_source (write i v x b a) ≡ true = rw xy (and_right (eqb x y && visible_to p s v) _ e) in
+      rw (← xy)
+      (or_cases (eqb s v) (committed p v) (and_right (eqb x y) _ h) (λ q. rw (← eqb-true s v q) (by_itself {i = i} {b = b} {a = a} (rw (eqb-true s v q) n))) (by-committed n))
   passes-source (commit i v) e = clash e refl
   passes-source (abort i v) e = clash e refl
   passes-source (other i v) e = clash e refl
@@ -126,11 +128,11 @@ visible_to-unaborted o p s x c n a v w =
     (λ h. rw (e, h, committed-unaborted v p c h))
     (λ h. by_cases (ended p v) (λ d. rw (e, h, ended-aborted v p d h)) (λ d. clash w (a v e d))))
 
--- every write feeds
-latest-sources : (g : ℕ → Bool) (x : ℕ) (p : History) → latest (source_by is_source g x) p ≡ latest (λ w. write_to x w && g (tx_of w)) p
+-- by kind
+latest-sources : (g : ℕ → Bool) (x : ℕ) (p : History) → latest (source_by is_source g x) p ≡ latest (λ w. (write_to x w && g (tx_of w)) && is_source w) p
 latest-sources g x [] = refl
 latest-sources g x (read t v y ∷ p) = latest-sources g x p
-latest-sources g x (write t v y b a ∷ p) = rw (is_source-write t v y b a, and-true (eqb x y && g v), latest-sources g x p)
+latest-sources g x (write t v y b a ∷ p) = rw (latest-sources g x p)
 latest-sources g x (commit t v ∷ p) = latest-sources g x p
 latest-sources g x (abort t v ∷ p) = latest-sources g x p
 latest-sources g x (other t v ∷ p) = latest-sources g x p
@@ -149,6 +151,7 @@ reads_from-papers d e i s x p u =
 pub reads-from : ReadsFrom
 reads-from =
     record {
+      every = is_source-write;
       highest = λ p s x w. (
         reads_from-highest p s x w,
         λ h. by-reads_from p s x (λ o. o ≡ some w) (λ e. absurd (none-source p s x e w h.earlier h.there h.source))

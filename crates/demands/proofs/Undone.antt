@@ -4,7 +4,7 @@ use mathlib.Core.Path.{◌≡◌, refl, sym, ◌∙◌}
 use mathlib.Core.Bool.{true, false, false≢true}
 use mathlib.Core.List.{List, ◌++◌}
 use mathlib.Core.Option.{none}
-use Prim.Native.Nat.{ℕ, zero, suc, ◌≤◌}
+use Prim.Native.Nat.{ℕ, zero, suc, ◌<◌, ◌≤◌}
 use native.Mathlib.Omega.{arith}
 use lib.Dec.{eqb}
 use lib.ListN.{length, get_or, drop}
@@ -25,10 +25,10 @@ use Rattle.journal.specs.Orders.{active_order, status_order, known_order, capaci
 use Rattle.journal.specs.Copy.{copy}
 use Rattle.journal.specs.Results.{totals, result}
 use Rattle.journal.specs.Calls.{accepted, UndoTotals, statuses, table_left, undo_totals, undo}
-use Rattle.journal.proofs.Clear.{Clear, clear-turns, turns-clear, clear-try, try-clear, clear-tried, tried-clear, decide-clear, clear-decide}
+use Rattle.journal.proofs.Clear.{Clear, clear-turns, turns-clear, try-clear, tried-clear, decide-clear, clear-decide}
 use Rattle.journal.proofs.Answered.{accepted-only}
 use Rattle.journal.proofs.Records.{tx_of-op_of}
-use Rattle.journal.proofs.Checked.{Sound, Checks, checks-clear, clear-checks}
+use Rattle.journal.proofs.Checked.{active-all, known-all, status-all, capacity-all, Sound, Checks, checks-clear, clear-checks}
 use Rattle.journal.proofs.Passing.{malformed-tx}
 use Rattle.demands.specs.Days.{accepts, Finished, PassFinished, Day}
 use Rattle.demands.proofs.DaysLaws.{answered-none, checks-pass}
@@ -58,55 +58,71 @@ committed-range b k s e = tx-range b k s (any-mono (commit_of s) (of_tx s) (λ r
 
 -- ---- the order of take-back
 
-names-known : (b names : List ℕ) → ((s : ℕ) → member s names ≡ true → committed (whole b) s ≡ true) → Clear (known_order (unknown b) names)
-unfolding known_order unknown
-names-known b names h =
-    clear-tried 12 _ _ _ (λ k l n. let e : committed (whole b) (get_or names k 0) ≡ true = h (get_or names k 0) (member-at names k (omega arith)) in rw e)
+-- no refusal of take-back, whose copy has n bytes
+record Undoes (d : Inputs) (bad status out : List ℕ) (n : ℕ) : Type 0 where
+  checks : Checks d
+  inactive : (s : ℕ) → 1 ≤ s → s ≤ 1024 → still_active d.journal s ≡ false
+  marks : wrong_status status ≡ false
+  known : (k : ℕ) → k < length bad → unknown d.journal (get_or bad k 0) ≡ false
+  room : too_short out n ≡ false
+
+undoes-clear : {d : Inputs} {bad status out : List ℕ} {n : ℕ} → Undoes d bad status out n → Clear (undo_order d bad status out n)
+unfolding undo_order
+undoes-clear {d} {bad} u =
+    clear-turns _ (checks-clear d u.checks, (active-all _ _ u.inactive, (status-all _ _ u.marks, (known-all _ _ bad u.known, (capacity-all _ _ _ u.room, tt)))))
+
+clear-undoes : {d : Inputs} {bad status out : List ℕ} {n : ℕ} → Clear (undo_order d bad status out n) → Undoes d bad status out n
+unfolding undo_order active_order status_order known_order capacity_order
+clear-undoes {d} c =
+    let (check, (active, (c13, (c12, (c14, end))))) = turns-clear _ c in
+    record {
+      checks = clear-checks d check;
+      inactive = λ s l h. tried-clear 11 _ 1 1024 active s l (omega arith);
+      marks = try-clear 13 _ _ c13;
+      known = λ k h. tried-clear 12 _ _ _ c12 k (omega arith) (omega arith);
+      room = try-clear 14 _ _ c14;
+    }
+
+names-known : (b names : List ℕ) → ((s : ℕ) → member s names ≡ true → committed (whole b) s ≡ true) → (k : ℕ) → k < length names → unknown b (get_or names k 0) ≡ false
+unfolding unknown
+names-known b names h k l = rw (h (get_or names k 0) (member-at names k l))
 
 module _ (d : Inputs) (bad status out : List ℕ) where
   abbrev b : List ℕ
   b = d.journal
 
   pub clear-accepting : Clear (undo_order d bad status out (length (copy bad b))) → Accepting b bad status out
-  unfolding undo_order status_order known_order capacity_order unknown wrong_status too_short
+  unfolding unknown wrong_status too_short
   clear-accepting c =
-      let (check, (active, (c13, (c12, (c14, end))))) = turns-clear _ c in
+      let u = clear-undoes c in
       record {
-        names = λ s m. let (k, h, e) = member-place s bad m in rw (← e) (not-false _ (tried-clear 12 _ _ _ c12 k (omega arith) (omega arith)));
-        status_length = eqb-true _ _ (not-false _ (try-clear 13 _ _ c13));
-        capacity = ltb-false _ _ (try-clear 14 _ _ c14);
+        names = λ s m. let (k, h, e) = member-place s bad m in rw (← e) (not-false _ (u.known k h));
+        status_length = eqb-true _ _ (not-false _ u.marks);
+        capacity = ltb-false _ _ u.room;
       }
 
   pub clear-passing : Clear (undo_order d bad status out (length (copy bad b))) → PassFinished d
-  unfolding undo_order active_order still_active
+  unfolding still_active
   clear-passing c =
-      let (check, (actives, rest)) = turns-clear _ c in
-      let k = clear-checks d check in
+      let u = clear-undoes c in
       record {
-        pass = checks-pass d k;
+        pass = checks-pass d u.checks;
         finished = λ s e.
-            let (l, h) = tx-range b k.sound s e in
-            by_cases (ended (whole b) s) (λ f. f)
-            (λ f. clash (and_from _ _ e (not_from_false _ f)) (tried-clear 11 _ 1 1024 actives s (omega arith) (omega arith)));
+            let (l, h) = tx-range b u.checks.sound s e in
+            by_cases (ended (whole b) s) (λ f. f) (λ f. clash (and_from _ _ e (not_from_false _ f)) (u.inactive s l h));
       }
 
   pub accepting-clear : Checks d → Finished b → Accepting b bad status out → Clear (undo_order d bad status out (length (copy bad b)))
-  unfolding undo_order active_order status_order capacity_order still_active wrong_status too_short
+  unfolding still_active wrong_status too_short
   accepting-clear k f a =
       let m : eqb (length status) 1025 ≡ true = eq-eqb _ _ a.status_length in
-      clear-turns _ (
-        checks-clear d k,
-        (
-          clear-tried 11 _ _ _ (λ s l n. finished-inactive b f s),
-          (
-            clear-try 13 _ _ (rw m),
-            (
-              names-known b bad a.names,
-              (clear-try 14 _ _ (le-ltb (length out) (length (copy bad b)) a.capacity), tt),
-            ),
-          ),
-        ),
-      )
+      undoes-clear (record {
+        checks = k;
+        inactive = λ s l n. finished-inactive b f s;
+        marks = rw m;
+        known = names-known b bad a.names;
+        room = le-ltb (length out) (length (copy bad b)) a.capacity;
+      })
 
   -- ---- the result
 
@@ -150,10 +166,9 @@ module _ (d : Inputs) (bad status out : List ℕ) where
 -- another list in a clear order, that names only committed transactions and whose copy is as long
 pub clear-named : (d : Inputs) (bad names status out : List ℕ) → ((s : ℕ) → member s names ≡ true → committed (whole d.journal) s ≡ true)
     → length (copy bad d.journal) ≡ length (copy names d.journal) → Clear (undo_order d bad status out (length (copy bad d.journal))) → Clear (undo_order d names status out (length (copy names d.journal)))
-unfolding undo_order
 clear-named d bad names status out known e c =
-    let (check, (active, (c13, (c12, (c14, end))))) = turns-clear _ c in
-    clear-turns _ (check, (active, (c13, (names-known d.journal names known, (rw (← e) c14, tt)))))
+    let u = clear-undoes c in
+    undoes-clear (record { checks = u.checks; inactive = u.inactive; marks = u.marks; known = names-known d.journal names known; room = rw (← e) u.room })
 
 -- an accepted call: its order is clear, and its counts are the definition's
 pub accepted-clear : {d : Inputs} {bad status out : List ℕ} {n : UndoTotals} → Accepted d bad status out n

@@ -10,10 +10,10 @@ use Rattle.journal.specs.Inputs.{Inputs}
 use Rattle.journal.specs.Journal.{whole}
 use Rattle.demands.specs.Days.{Pass}
 
--- a write of item x by transaction s itself, or by one that has already committed in p
+-- a write of item x that may feed, by transaction s itself or by one that has already committed in p
 pub data Source (p : History) (s x : ℕ) : Op → Type 0 where
-  by_itself : {i : Tag} {b a : Amount} → Source p s x (write i s x b a)
-  by-committed : {i : Tag} {v : ℕ} {b a : Amount} → committed p v ≡ true → Source p s x (write i v x b a)
+  by_itself : {i : Tag} {b a : Amount} → is_source (write i s x b a) ≡ true → Source p s x (write i s x b a)
+  by-committed : {i : Tag} {v : ℕ} {b a : Amount} → is_source (write i v x b a) ≡ true → committed p v ≡ true → Source p s x (write i v x b a)
 
 -- w is the highest of them: it stands in p, with what is earlier behind it, and none stands higher
 pub record Highest (p : History) (s x : ℕ) (w : Op) : Type 0 where
@@ -23,12 +23,14 @@ pub record Highest (p : History) (s x : ℕ) (w : Op) : Type 0 where
   pub highest : (v : Op) (q : History) → Upto (v ∷ q) p → Source p s x v → length q ≤ length earlier
 
 -- The published papers' rule (source document 002, "reads x from"): a read of x after p is fed by the highest earlier write of x
--- whose transaction has not aborted before the read; it may be another, still active one.
+-- whose transaction has not aborted before the read; it may be another, still active one. Of the writes that may feed.
 abbrev pub last_unaborted : History → ℕ → Option Op
-last_unaborted p x = latest (λ w. write_to x w && not (aborted p (tx_of w))) p
+last_unaborted p x = latest (λ w. (write_to x w && not (aborted p (tx_of w))) && is_source w) p
 
 -- A read of x by s after p is fed by w exactly if w is the highest; by the opening amount exactly if there is none.
 pub record ReadsFrom : Type 0 where
+  -- the writes that may feed: every one
+  pub every : (i : Tag) (s x : ℕ) (b a : Amount) → is_source (write i s x b a) ≡ true
   pub highest : (p : History) (s x : ℕ) (w : Op) → (reads_from is_source p s x ≡ some w) ↔ Highest p s x w
   pub opening : (p : History) (s x : ℕ) → (reads_from is_source p s x ≡ none)
       ↔ ((w : Op) (q : History) → Upto (w ∷ q) p → Source p s x w → ⊥)

@@ -29,14 +29,17 @@ pub data Answers {A : Type 0} (numbers : List ℕ) : Answer A → Type 0 where
 abbrev pub start_numbers : List ℕ
 start_numbers = 1 ∷ 2 ∷ []
 
+abbrev pub record_numbers : List ℕ
+record_numbers = 4 ∷ 5 ∷ 6 ∷ 7 ∷ 8 ∷ 9 ∷ []
+
 abbrev pub check_numbers : List ℕ
-check_numbers = 1 ∷ 2 ∷ 3 ∷ 4 ∷ 5 ∷ 6 ∷ 7 ∷ 8 ∷ 9 ∷ 10 ∷ []
+check_numbers = 1 ∷ 2 ∷ 3 ∷ (record_numbers ++ 10 ∷ [])
 
 abbrev pub count_numbers : List ℕ
 count_numbers = 1 ∷ 2 ∷ []
 
 abbrev pub chain_numbers : List ℕ
-chain_numbers = 1 ∷ 2 ∷ 4 ∷ 5 ∷ 6 ∷ 7 ∷ 8 ∷ 9 ∷ 12 ∷ 14 ∷ []
+chain_numbers = 1 ∷ 2 ∷ (record_numbers ++ 12 ∷ 14 ∷ [])
 
 abbrev pub append_numbers : List ℕ
 append_numbers = check_numbers ++ 15 ∷ 4 ∷ 6 ∷ 7 ∷ 8 ∷ 14 ∷ []

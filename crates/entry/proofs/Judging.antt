@@ -3,20 +3,17 @@
 use mathlib.Core.Path.{◌≡◌, ◌∙◌}
 use mathlib.Core.Bool.{cond}
 use mathlib.Core.List.{List, [], ◌∷◌}
-use mathlib.Core.Option.{Option, none, some}
+use mathlib.Core.Option.{none}
 use Prim.Native.Nat.{ℕ, ◌+◌}
 use native.Mathlib.Numerals.{add-one}
 use Rattle.lists.specs.Search.{or_else}
 use Rattle.format.specs.declared.Record.{Record}
 use Rattle.journal.specs.Journal.{count, items, op_of, history, whole}
 use Rattle.journal.specs.Refusals.{RecordCounts, malformed, no_room, wrong_counts}
-use Rattle.journal.specs.Orders.{Refusal, access_order, counts_order, new_order, decide}
+use Rattle.journal.specs.Orders.{access_order, counts_order, new_order, decide}
 use Rattle.journal.proofs.OrdersLaws.{or_else-none, decide-try, decide-turn, decide-over, decide-one}
+use Rattle.rules.proofs.RuleLaws.{at}
 use Rattle.entry.specs.Entries.{entry_order}
-
--- a refusal, by number and place
-abbrev at : ℕ → ℕ → Option Refusal
-at n p = some (record { number = n; place = p })
 
 -- 4, then 6 to 8, then 14
 pub new_parts : (b : List ℕ) (r : Record) → decide (new_order b r)

@@ -9,8 +9,8 @@ use Prim.Native.Nat.{ℕ}
 use lib.ListN.{length}
 use borrow.Author.Tests.{eq-eqb, ne_eqb}
 use Rattle.lists.specs.Search.{or_else}
-use Rattle.model.specs.History.{Amount, active}
-use Rattle.journal.specs.Inputs.{inputs_of}
+use Rattle.model.specs.History.{active}
+use Rattle.journal.specs.Inputs.{Inputs}
 use Rattle.journal.specs.declared.Reason.{Reason}
 use Rattle.journal.specs.Reasons.{number_of, place_of}
 use Rattle.journal.specs.Journal.{count, history, whole}
@@ -38,43 +38,43 @@ pub sized_by : (d : Option Refusal) (x : Size) (r : Result Passed Reason) (j : J
 sized_by d x (Ok p) j q k e = rw (← q) (ap accepted (ap size k ∙ e))
 sized_by d x (Err why) j q k e = rw (← q)
 
-module _ (b : List ℕ) (t : List Amount) where
+module _ (d : Inputs) where
   -- ---- 11
 
-  active-whole : (n : ℕ) → n ≡ count b → active_order (active (history b n)) ≡ active_order (still_active b)
+  active-whole : (n : ℕ) → n ≡ count d.journal → active_order (active (history d.journal n)) ≡ active_order (still_active d.journal)
   unfolding active_order still_active whole
-  active-whole n c = try_each-ext 11 _ _ 1 1024 (λ k l u. ap (λ n. active (history b n) k) c)
+  active-whole n c = try_each-ext 11 _ _ 1 1024 (λ k l u. ap (λ n. active (history d.journal n) k) c)
 
   -- ---- 1 to 11
 
-  examined-parts : decide (examined_order (inputs_of b t)) ≡ or_else (decide (check_order (inputs_of b t))) (decide (active_order (still_active b)))
+  examined-parts : decide (examined_order d) ≡ or_else (decide (check_order d)) (decide (active_order (still_active d.journal)))
   unfolding examined_order
   examined-parts =
-      decide-turn (check_order (inputs_of b t)) (active_order (still_active b) ∷ []) ∙ ap (or_else (decide (check_order (inputs_of b t)))) (decide-one (active_order (still_active b)))
+      decide-turn (check_order d) (active_order (still_active d.journal) ∷ []) ∙ ap (or_else (decide (check_order d))) (decide-one (active_order (still_active d.journal)))
 
-  pub examined_early : (f : Refusal) → some f ≡ decide (check_order (inputs_of b t)) → some f ≡ decide (examined_order (inputs_of b t))
+  pub examined_early : (f : Refusal) → some f ≡ decide (check_order d) → some f ≡ decide (examined_order d)
   examined_early f q = rw (examined-parts, ← q)
 
-  pub examined_late : (n : ℕ) (v : Option Refusal) → none ≡ decide (check_order (inputs_of b t)) → n ≡ count b → v ≡ decide (active_order (active (history b n))) → v ≡ decide (examined_order (inputs_of b t))
+  pub examined_late : (n : ℕ) (v : Option Refusal) → none ≡ decide (check_order d) → n ≡ count d.journal → v ≡ decide (active_order (active (history d.journal n))) → v ≡ decide (examined_order d)
   examined_late n v q c g = rw (examined-parts, ← q, ← active-whole n c) g
 
   -- ---- the same without 10
 
-  unsettled-parts : decide (unsettled_order (inputs_of b t)) ≡ or_else (decide (open_order b)) (or_else (decide (tabled_order (inputs_of b t))) (decide (active_order (still_active b))))
+  unsettled-parts : decide (unsettled_order d) ≡ or_else (decide (open_order d.journal)) (or_else (decide (tabled_order d)) (decide (active_order (still_active d.journal))))
   unfolding unsettled_order ended_order tabled_order
   unsettled-parts = simp (decide-turn, decide-over, or_else-none, or_else-assoc)
 
-  pub unsettled_head : (why : Reason) → refused (number_of why) (place_of why) ≡ answered (decide (open_order b)) (size_of b) → some (refusal_of why) ≡ decide (unsettled_order (inputs_of b t))
-  unsettled_head why q = rw (unsettled-parts, refused-only (number_of why) (place_of why) (decide (open_order b)) (size_of b) q)
+  pub unsettled_head : (why : Reason) → refused (number_of why) (place_of why) ≡ answered (decide (open_order d.journal)) (size_of d.journal) → some (refusal_of why) ≡ decide (unsettled_order d)
+  unsettled_head why q = rw (unsettled-parts, refused-only (number_of why) (place_of why) (decide (open_order d.journal)) (size_of d.journal) q)
 
-  module _ (s : Size) (q : accepted s ≡ answered (decide (open_order b)) (size_of b)) where
-    opens : decide (open_order b) ≡ none
-    opens = (accepted-only (decide (open_order b)) s (size_of b) q).0
+  module _ (s : Size) (q : accepted s ≡ answered (decide (open_order d.journal)) (size_of d.journal)) where
+    opens : decide (open_order d.journal) ≡ none
+    opens = (accepted-only (decide (open_order d.journal)) s (size_of d.journal) q).0
 
-    pub unsettled_early : (f : Refusal) → some f ≡ decide (tabled_order (inputs_of b t)) → some f ≡ decide (unsettled_order (inputs_of b t))
+    pub unsettled_early : (f : Refusal) → some f ≡ decide (tabled_order d) → some f ≡ decide (unsettled_order d)
     unsettled_early f g = rw (unsettled-parts, opens, ← g)
 
-    pub unsettled_late : (n : ℕ) (v : Option Refusal) → none ≡ decide (tabled_order (inputs_of b t)) → n ≡ count b → v ≡ decide (active_order (active (history b n))) → v ≡ decide (unsettled_order (inputs_of b t))
+    pub unsettled_late : (n : ℕ) (v : Option Refusal) → none ≡ decide (tabled_order d) → n ≡ count d.journal → v ≡ decide (active_order (active (history d.journal n))) → v ≡ decide (unsettled_order d)
     unsettled_late n v r c g = rw (unsettled-parts, opens, ← r, ← active-whole n c) g
 
 -- ---- 13, then 12

@@ -2,7 +2,6 @@
 #![tactic(auto)]
 
 ghost use Rattle.std.specs.Prelude.{◌≡◌, IfOk};
-ghost use Rattle.std.proofs.Math.Option.{none};
 ghost use Rattle.model.specs.History.{active};
 ghost use Rattle.journal.specs.Inputs.{inputs_of};
 ghost use Rattle.journal.specs.Journal.{history};

@@ -23,6 +23,7 @@ use Rattle.journal.specs.Journal.{items, tx_in, op_of, history, amount_at}
 use Rattle.journal.specs.Refusals.{malformed}
 use Rattle.journal.specs.Calls.{applied_table}
 use Rattle.journal.proofs.Records.{history-zero, history-suc}
+use Rattle.journal.proofs.Passing.{malformed-item}
 use Rattle.journal.proofs.Unrefused.{op_of-write, op_of-abort}
 use Rattle.journal.proofs.Appending.{length-applied_table, amount-applied_table}
 use Rattle.arrays.specs.Arrays.{Ready}
@@ -38,8 +39,7 @@ table_is p o t l e h =
 -- ---- one record
 
 pub item_within : (m : ℕ) (r : Record) → malformed m r ≡ false → r.kind ≡ 2 → r.item.0 < m
-unfolding malformed
-item_within m r f e = grind (arith, common_steps)
+item_within m r f e = malformed-item m r f (omega arith)
 
 -- what is no write of the transaction is none of the item either
 no_write : (s x : ℕ) (i : Tag) (r : Record) → eqb r.kind 2 ≡ false → write_of s x (op_of i r) ≡ false

@@ -1,14 +1,14 @@
 -- Amounts compared by their bits, the layout of the head and of a record, test by test.
 -- Assumes nothing.
 use mathlib.Core.Path.{◌≡◌, sym, ◌∙◌, ap}
-use mathlib.Core.Bool.{Bool, false≢true, true, false, cond, ◌&&◌}
+use mathlib.Core.Bool.{Bool, true, false, cond, ◌&&◌}
 use mathlib.Core.List.{List}
 use mathlib.Core.Option.{none, some}
 use Prim.Native.Nat.{ℕ, ◌+◌, ◌*◌, ◌<◌, ◌≤◌}
 use lib.IntN.{pos}
-use lib.Dec.{eqb, leb, ltb}
+use lib.Dec.{eqb, leb}
 use lib.ListN.{length}
-use borrow.Author.Tests.{eq-eqb, ne_eqb, lt-ltb, le-ltb, leb-true, ltb-true, not-false}
+use borrow.Author.Tests.{eq-eqb, ne_eqb, lt-ltb, le-ltb, leb-true}
 use mir.Syntax.{w32}
 use mir.Val.{of_z, SFits}
 use Rattle.lists.specs.Search.{or_else}
@@ -20,9 +20,10 @@ use Rattle.format.specs.Bytes.{amount}
 use Rattle.model.specs.History.{Amount, same_amount}
 use Rattle.model.proofs.Amounts.{same_refl, same-eq}
 use Rattle.journal.specs.Journal.{tx_in, count, items}
-use Rattle.journal.specs.Refusals.{within, head_right, body_right, malformed, short, truncated, bad_head}
+use Rattle.journal.specs.Refusals.{within, head_right, malformed, short, truncated, bad_head}
 use Rattle.journal.specs.Orders.{decide, open_order}
 use Rattle.journal.specs.Calls.{Answer, refused, accepted, answered}
+use Rattle.journal.proofs.Unrefused.{formed-cases}
 use Rattle.journal.proofs.OrdersLaws.{or_else-none, decide-try, decide-turn, decide-over}
 use Rattle.fields.specs.Answers.{Size}
 
@@ -32,31 +33,10 @@ same_bits a b f g =
     (λ e. rw e (eq-eqb _ _ (ap (of_z w32) (same-eq a b e))))
     (λ e. rw e (ne_eqb (of_z w32 a) (of_z w32 b) (λ q. clash (ap (same_amount a) (sym (sym (amount-bits f) ∙ ap amount q ∙ amount-bits g)) ∙ same_refl a) e)))
 
--- ---- the fields of a record that is not malformed
+-- ---- the kind of a record that is not malformed
 
-module _ (n : ℕ) (r : Record) (f : malformed n r ≡ false) where
-  parts : eqb r.reserved 0 && within 1 1024 (tx_in r) && body_right n r ≡ true
-  unfolding malformed
-  parts = not-false _ f
-
-  pub formed-range : (1 ≤ tx_in r) × (tx_in r ≤ 1024)
-  formed-range =
-      let a = and_right (eqb r.reserved 0) _ (and_left (eqb r.reserved 0 && within 1 1024 (tx_in r)) _ parts) in
-      (leb-true _ _ (and_left (leb 1 (tx_in r)) _ a), leb-true _ _ (and_right (leb 1 (tx_in r)) _ a))
-
-  body : body_right n r ≡ true
-  body = and_right (eqb r.reserved 0 && within 1 1024 (tx_in r)) _ parts
-
-  pub formed-item-read : r.kind ≡ 1 → r.item.0 < n
-  formed-item-read k =
-      let b = rw k at body in
-      ltb-true _ _ (and_left (ltb r.item.0 n) _ (and_left (ltb r.item.0 n && same_amount r.before (pos 0)) _ b))
-
-  pub formed-item-write : r.kind ≡ 2 → r.item.0 < n
-  formed-item-write k = let b = rw k at body in ltb-true _ _ b
-
-  pub formed-kinds : (r.kind ≡ 1 → ⊥) → (r.kind ≡ 2 → ⊥) → (r.kind ≡ 3 → ⊥) → (r.kind ≡ 4 → ⊥) → ⊥
-  formed-kinds a b c d = false≢true (rw (ne_eqb r.kind 1 a, ne_eqb r.kind 2 b, ne_eqb r.kind 3 c, ne_eqb r.kind 4 d) at body)
+pub formed-kinds : (n : ℕ) (r : Record) → malformed n r ≡ false → (r.kind ≡ 1 → ⊥) → (r.kind ≡ 2 → ⊥) → (r.kind ≡ 3 → ⊥) → (r.kind ≡ 4 → ⊥) → ⊥
+formed-kinds n r f a b c d = formed-cases n r f (λ k l z. a k) (λ k l. b k) (λ k z. c k) (λ k z. d k)
 
 -- ---- the head
 

@@ -1,7 +1,7 @@
 // The fields of a journal: its head, by refusals 1 and 2, and those of a record, by rule 4.
 #![tactic(auto)]
 
-ghost use Rattle.std.specs.Prelude.{◌≡◌, not, ◌&&◌, ◌||◌, eqb, pos, IfOk};
+ghost use Rattle.std.specs.Prelude.{◌≡◌, not, ◌&&◌, pos, IfOk};
 ghost use Rattle.model.specs.History.{same_amount};
 ghost use Rattle.journal.specs.Refusals.{head_right, body_right, malformed};
 ghost use Rattle.journal.specs.Orders.{decide, open_order};

@@ -85,14 +85,14 @@ value-take-bound none (suc w) = omega (arith, pow_step 256 w, value-take-bound n
 value-take-bound (byte h k) (suc w) = omega (arith, pow_step 256 w, value-take-bound k w)
 
 -- a field one byte wider, read at its lowest byte
-pub value-step : (b : List ℕ) (a w : ℕ) → value (take (suc w) (drop a b)) ≡ get_or b a 0 + 256 * value (take w (drop (suc a) b))
+value-step : (b : List ℕ) (a w : ℕ) → value (take (suc w) (drop a b)) ≡ get_or b a 0 + 256 * value (take w (drop (suc a) b))
 unfolding value
 value-step [] zero w = rw (take-nil w)
 value-step [] (suc a) w = rw (take-nil w)
 value-step (x ∷ b) zero w = refl
 value-step (x ∷ b) (suc a) w = value-step b a w
 
-pub value_none : (b : List ℕ) → value (take 0 b) ≡ 0
+value_none : (b : List ℕ) → value (take 0 b) ≡ 0
 unfolding value
 value_none b = refl
 
@@ -110,7 +110,7 @@ value-last (x ∷ b) (suc w) =
     rw (value-last b w, top) (omega arith)
 
 -- byte i of those from `at` on
-abbrev pub byte_from : List ℕ → ℕ → ℕ → ℕ
+abbrev byte_from : List ℕ → ℕ → ℕ → ℕ
 byte_from b at zero = get_or b at 0
 byte_from b at (suc i) = get_or b (at + suc i) 0
 
@@ -141,7 +141,7 @@ written w x at n b l e q = part-stored at n b l e ∙ ap (λ v. store at v l) (q
 -- ---- entries
 
 -- less than an entry
-pub entries-short : (w : ℕ) (b : List ℕ) → length b < w → entries w b ≡ []
+entries-short : (w : ℕ) (b : List ℕ) → length b < w → entries w b ≡ []
 unfolding entries
 entries-short w b h = rw (div-eq_of_lt h) (tabulate-zero (entry w b) 0)
 
@@ -156,7 +156,7 @@ entry-suc w a b i e =
     let n : w * suc i ≡ w + w * i = omega (arith, mul-suc w i) in
     ap (λ r. value (take w r)) (ap (λ k. drop k (a ++ b)) n ∙ sym (drop-drop (w * i) w (a ++ b)) ∙ ap (drop (w * i)) (drop_at a b w e))
 
-pub entries-cons : (w n : ℕ) (b : List ℕ) → 0 < w → n < 256 ^ w → entries w (bytes w n ++ b) ≡ n ∷ entries w b
+entries-cons : (w n : ℕ) (b : List ℕ) → 0 < w → n < 256 ^ w → entries w (bytes w n ++ b) ≡ n ∷ entries w b
 unfolding entries
 entries-cons w n b p h =
     let more : length (bytes w n ++ b) / w ≡ suc (length b / w) =

@@ -19,22 +19,22 @@ use Rattle.format.proofs.BytesLaws.{Bytes-take, Bytes-drop, Bytes-append, length
 -- ---- fields of any widths
 
 -- each number fits its width
-pub data Fit : List ℕ → List ℕ → Type 0 where
+data Fit : List ℕ → List ℕ → Type 0 where
   no_fields : Fit [] []
   field : {w v : ℕ} {ws vs : List ℕ} → v < 256 ^ w → Fit ws vs → Fit (w ∷ ws) (v ∷ vs)
 
 -- the bytes that the fields take
-abbrev pub width : List ℕ → ℕ
+abbrev width : List ℕ → ℕ
 width [] = 0
 width (w ∷ ws) = w + width ws
 
-pub parsed-printed : {ws vs : List ℕ} → Fit ws vs → (rest : List ℕ) → parsed ws (printed ws vs ++ rest) ≡ vs
+parsed-printed : {ws vs : List ℕ} → Fit ws vs → (rest : List ℕ) → parsed ws (printed ws vs ++ rest) ≡ vs
 unfolding parsed printed
 parsed-printed no_fields rest = refl
 parsed-printed (field {w} {v} {ws} {vs} h k) rest =
     rw (append_assoc (bytes w v) (printed ws vs) rest, take_at (bytes w v) (printed ws vs ++ rest) w (length-bytes w v), drop_at (bytes w v) (printed ws vs ++ rest) w (length-bytes w v), value-bytes w v h, parsed-printed k rest)
 
-pub printed-parsed : (ws : List ℕ) {b : List ℕ} → Bytes b → width ws ≤ length b → printed ws (parsed ws b) ≡ take (width ws) b
+printed-parsed : (ws : List ℕ) {b : List ℕ} → Bytes b → width ws ≤ length b → printed ws (parsed ws b) ≡ take (width ws) b
 unfolding parsed printed
 printed-parsed [] k h = refl
 printed-parsed (w ∷ ws) {b} k h =
@@ -43,7 +43,7 @@ printed-parsed (w ∷ ws) {b} k h =
     rw (here, printed-parsed ws (Bytes-drop k w) (omega (arith, length-drop w b))) (sym (take-add w (width ws) b))
 
 -- bytes behind the fields are not read
-pub parsed-take : (ws : List ℕ) (n : ℕ) (b : List ℕ) → width ws ≤ n → parsed ws (take n b) ≡ parsed ws b
+parsed-take : (ws : List ℕ) (n : ℕ) (b : List ℕ) → width ws ≤ n → parsed ws (take n b) ≡ parsed ws b
 unfolding parsed
 parsed-take [] n b h = refl
 parsed-take (w ∷ ws) n b h =
@@ -52,22 +52,22 @@ parsed-take (w ∷ ws) n b h =
     rw (take-take w n b (omega arith), rest, parsed-take ws (n - w) (drop w b) (omega arith))
 
 -- field k stands behind the fields before it
-pub parsed-at : (ws b : List ℕ) (k : ℕ) → k < length ws → get_or (parsed ws b) k 0 ≡ value (take (get_or ws k 0) (drop (width (take k ws)) b))
+parsed-at : (ws b : List ℕ) (k : ℕ) → k < length ws → get_or (parsed ws b) k 0 ≡ value (take (get_or ws k 0) (drop (width (take k ws)) b))
 unfolding parsed
 parsed-at [] b k h = absurd (omega arith)
 parsed-at (w ∷ ws) b zero h = refl
 parsed-at (w ∷ ws) b (suc k) h = parsed-at ws (drop w b) k (omega arith) ∙ ap (λ r. value (take (get_or ws k 0) r)) (drop-drop (width (take k ws)) w b)
 
-pub parsed-bound : (ws : List ℕ) {b : List ℕ} → Bytes b → (k : ℕ) → k < length ws → get_or (parsed ws b) k 0 < 256 ^ get_or ws k 0
+parsed-bound : (ws : List ℕ) {b : List ℕ} → Bytes b → (k : ℕ) → k < length ws → get_or (parsed ws b) k 0 < 256 ^ get_or ws k 0
 parsed-bound ws {b} j k h = rw (parsed-at ws b k h) (value-take-bound (Bytes-drop j (width (take k ws))) (get_or ws k 0))
 
-pub printed-bytes : (ws vs : List ℕ) → Bytes (printed ws vs)
+printed-bytes : (ws vs : List ℕ) → Bytes (printed ws vs)
 unfolding printed
 printed-bytes [] vs = none
 printed-bytes (w ∷ ws) [] = none
 printed-bytes (w ∷ ws) (v ∷ vs) = Bytes-append (bytes-bytes w v) (printed-bytes ws vs)
 
-pub length-printed : (ws vs : List ℕ) → length vs ≡ length ws → length (printed ws vs) ≡ width ws
+length-printed : (ws vs : List ℕ) → length vs ≡ length ws → length (printed ws vs) ≡ width ws
 unfolding printed
 length-printed [] vs e = refl
 length-printed (w ∷ ws) [] e = absurd (omega arith)
@@ -89,7 +89,7 @@ pub record_of-bytes_of : {r : Record} → Fitting r → (rest : List ℕ) → re
 unfolding record_of bytes_of
 record_of-bytes_of f rest = ap record_with (parsed-printed (fields_fit f) rest) ∙ record_with-fields f
 
-pub record_of-fitting : {b : List ℕ} → Bytes b → Fitting (record_of b)
+record_of-fitting : {b : List ℕ} → Bytes b → Fitting (record_of b)
 unfolding record_of
 record_of-fitting k =
     record {
@@ -108,12 +108,12 @@ unfolding record_of parsed
 fields-record_of {b} k =
     rw (bits-amount (get_or (parsed layout b) 5 0) (parsed-bound layout k 5 (omega arith)), bits-amount (get_or (parsed layout b) 6 0) (parsed-bound layout k 6 (omega arith)))
 
-pub bytes_of-record_of : {b : List ℕ} → Bytes b → length b ≡ 20 → bytes_of (record_of b) ≡ b
+bytes_of-record_of : {b : List ℕ} → Bytes b → length b ≡ 20 → bytes_of (record_of b) ≡ b
 unfolding bytes_of
 bytes_of-record_of {b} k e = ap (printed layout) (fields-record_of k) ∙ printed-parsed layout k (omega arith) ∙ take_all 20 b (omega arith)
 
 -- bytes behind the 20 are not read
-pub record_of-take : (b : List ℕ) → record_of (take 20 b) ≡ record_of b
+record_of-take : (b : List ℕ) → record_of (take 20 b) ≡ record_of b
 unfolding record_of
 record_of-take b = ap record_with (parsed-take layout 20 b (omega arith))
 

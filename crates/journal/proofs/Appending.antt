@@ -31,7 +31,7 @@ use Rattle.journal.specs.Orders.{counts_order, new_order, start_order, append_or
 use Rattle.journal.specs.Calls.{link, extended, accepted, applied_table, raised, start, opening_at, opening_table}
 use Rattle.journal.proofs.Clear.{Clear, clear-turns, turns-clear, clear-try, try-clear, clear-decide}
 use Rattle.journal.proofs.Encoded.{head_with-fitting}
-use Rattle.journal.proofs.Checked.{new-all, Follows, RecordRight, Sound, Checks, follows-clear, clear-follows, checks-clear, clear-checks}
+use Rattle.journal.proofs.Checked.{counts-all, new-all, Follows, RecordRight, Sound, Checks, follows-clear, clear-follows, checks-clear, clear-checks}
 use Rattle.journal.proofs.Records.{by_kind, tx_of-op_of, tag_of-op_of, op_of-linked_to, length-history, history-zero, history-suc}
 use Rattle.journal.proofs.Stored.{stored-fits, record_at-stored, record_at-stored-other, linked-fits, record_at-linked, record_at-linked-other, length-link, link-bytes, link-behind, record_at-link, record_at-link-head}
 use Rattle.journal.proofs.Unrefused.{room, HeadFields, head-head_fields, head_fields-head, table-length, length-table, formed-cases, malformed-linked_to, op_of-read, op_of-write, op_of-commit, op_of-abort, chained-next, next-chained, settled-amount, amount-settled, history-numbered, record-upto}
@@ -242,8 +242,8 @@ clear-enters b r k =
     record { formed = try-clear 4 _ _ c4; follows = clear-follows _ _ _ access; room = try-clear 14 _ _ c14 }
 
 pub append-clear : (d : Inputs) (c : RecordCounts) (r : Record) → Checks d → wrong_counts d.journal c ≡ false → Enters d.journal r → Clear (append_order d c r)
-unfolding append_order counts_order
-append-clear d c r k w e = clear-turns _ (checks-clear d k, (clear-try 15 _ _ w, (enters-clear d.journal r e, tt)))
+unfolding append_order
+append-clear d c r k w e = clear-turns _ (checks-clear d k, (counts-all _ d.journal c w, (enters-clear d.journal r e, tt)))
 
 pub clear-appended : (d : Inputs) (c : RecordCounts) (r : Record) → Clear (append_order d c r) → Checks d × (wrong_counts d.journal c ≡ false) × Enters d.journal r
 unfolding append_order counts_order

@@ -2,19 +2,20 @@
 -- record and each item, one by one.
 -- Assumes nothing.
 use mathlib.Core.Path.{◌≡◌}
-use mathlib.Core.Bool.{false}
+use mathlib.Core.Bool.{Bool, false}
 use mathlib.Core.List.{List}
 use mathlib.Core.Option.{none}
 use Prim.Native.Nat.{ℕ, zero, suc, pred, ◌+◌, ◌<◌, ◌≤◌}
 use native.Mathlib.Omega.{arith}
+use lib.ListN.{length, get_or}
 use Rattle.format.specs.declared.Record.{Record}
 use Rattle.format.specs.Layout.{record_at}
 use Rattle.model.specs.History.{Op, History}
 use Rattle.journal.specs.Inputs.{Inputs}
 use Rattle.journal.specs.Journal.{count, items, op_of, history, whole}
-use Rattle.journal.specs.Refusals.{short, truncated, bad_head, wrong_table, malformed, wrong_next, terminated, conflicting, blind, mismatched, unsettled, no_room}
-use Rattle.journal.specs.Orders.{Trial, trial, open_order, table_order, access_order, rule_order, record_order, records_order, settled_order, new_order, sound_order, check_order, decide}
-use Rattle.journal.proofs.Clear.{All, all-turns, all-try, Clear, clear-turns, turns-clear, clear-try, try-clear, clear-each, each-clear, clear-tried, tried-clear, decide-clear}
+use Rattle.journal.specs.Refusals.{RecordCounts, short, truncated, bad_head, wrong_table, malformed, wrong_next, terminated, conflicting, blind, mismatched, unsettled, absent, wrong_status, too_short, no_room, wrong_counts}
+use Rattle.journal.specs.Orders.{Trial, trial, open_order, table_order, access_order, rule_order, record_order, records_order, settled_order, active_order, known_order, present_order, status_order, capacity_order, counts_order, new_order, sound_order, check_order, decide}
+use Rattle.journal.proofs.Clear.{All, all-turns, all-try, all-tried, Clear, clear-turns, turns-clear, try-clear, clear-each, each-clear, tried-clear, decide-clear}
 
 -- ---- each condition of a stage
 
@@ -40,6 +41,38 @@ module _ (P : Trial → Type 0) where
       → P (trial 14 0 (no_room b)) → All P (new_order b r)
   unfolding new_order
   new-all b r c4 access c14 = all-turns P _ (all-try P 4 _ _ c4, (access, (all-try P 14 0 _ c14, tt)))
+
+  pub table-all : (d : Inputs) → P (trial 3 0 (wrong_table d.journal d.table)) → All P (table_order d)
+  unfolding table_order
+  table-all d c = all-try P 3 0 _ c
+
+  pub settled-all : (d : Inputs) → ((x : ℕ) → x < items d.journal → P (trial 10 x (unsettled d.journal d.table x))) → All P (settled_order d)
+  unfolding settled_order
+  settled-all d c = all-tried P 10 _ _ _ (λ x l m. c x (omega arith))
+
+  pub active-all : (f : ℕ → Bool) → ((s : ℕ) → 1 ≤ s → s ≤ 1024 → P (trial 11 s (f s))) → All P (active_order f)
+  unfolding active_order
+  active-all f c = all-tried P 11 _ _ _ (λ s l m. c s l (omega arith))
+
+  pub known-all : (f : ℕ → Bool) (bad : List ℕ) → ((k : ℕ) → k < length bad → P (trial 12 k (f (get_or bad k 0)))) → All P (known_order f bad)
+  unfolding known_order
+  known-all f bad c = all-tried P 12 _ _ _ (λ k l m. c k (omega arith))
+
+  pub present-all : (b : List ℕ) (s : ℕ) → P (trial 12 0 (absent b s)) → All P (present_order b s)
+  unfolding present_order
+  present-all b s c = all-try P 12 0 _ c
+
+  pub status-all : (status : List ℕ) → P (trial 13 0 (wrong_status status)) → All P (status_order status)
+  unfolding status_order
+  status-all status c = all-try P 13 0 _ c
+
+  pub capacity-all : {A : Type 0} (l : List A) (n : ℕ) → P (trial 14 0 (too_short l n)) → All P (capacity_order l n)
+  unfolding capacity_order
+  capacity-all l n c = all-try P 14 0 _ c
+
+  pub counts-all : (b : List ℕ) (c : RecordCounts) → P (trial 15 0 (wrong_counts b c)) → All P (counts_order b c)
+  unfolding counts_order
+  counts-all b c p = all-try P 15 0 _ p
 
 -- ---- nothing holds
 
@@ -123,17 +156,11 @@ unfolding sound_order
 decide-sound b e = let (opens, (records, end)) = turns-clear _ (decide-clear _ e) in clear-sound b opens records
 
 pub checks-clear : (d : Inputs) → Checks d → Clear (check_order d)
-unfolding check_order table_order settled_order
+unfolding check_order
 checks-clear d k =
     clear-turns _ (
       open-clear d.journal k.sound.long k.sound.head k.sound.full,
-      (
-        clear-try 3 _ _ k.table,
-        (
-          records-clear d.journal k.sound.right,
-          (clear-tried 10 _ _ _ (λ x l m. k.settled x (omega arith)), tt),
-        ),
-      ),
+      (table-all _ d k.table, (records-clear d.journal k.sound.right, (settled-all _ d k.settled, tt))),
     )
 
 pub clear-checks : (d : Inputs) → Clear (check_order d) → Checks d

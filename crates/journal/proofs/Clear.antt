@@ -23,7 +23,7 @@ module _ (P : Trial → Type 0) where
   all_append empty d = d
   all_append (also e c) d = also e (all_append c d)
 
-  pub all_left : (a b : Order) → All P (a ++ b) → All P a
+  all_left : (a b : Order) → All P (a ++ b) → All P a
   all_left [] b c = empty
   all_left (t ∷ a) b (also e c) = also e (all_left a b c)
 
@@ -115,9 +115,6 @@ clear-each f i n h = all-each _ f i n h
 
 pub each-clear : (f : ℕ → Order) (i n : ℕ) → Clear (each f i n) → (k : ℕ) → i ≤ k → k < i + n → Clear (f k)
 each-clear f i n c = each_all _ f i n c
-
-pub clear-tried : (n : ℕ) (f : ℕ → Bool) (i m : ℕ) → ((k : ℕ) → i ≤ k → k < i + m → f k ≡ false) → Clear (try_each n f i m)
-clear-tried n f i m h = all-tried (λ t. t.holds ≡ false) n f i m h
 
 pub tried-clear : (n : ℕ) (f : ℕ → Bool) (i m : ℕ) → Clear (try_each n f i m) → (k : ℕ) → i ≤ k → k < i + m → f k ≡ false
 unfolding try_each

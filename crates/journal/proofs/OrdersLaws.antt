@@ -15,12 +15,16 @@ use Rattle.lists.proofs.TablesLaws.{each-zero, each-suc, each-ext}
 use Rattle.lists.specs.Search.{or_else}
 use Rattle.journal.specs.Orders.{Refusal, Order, try, try_each, in_turn, decide}
 
+-- number and place
+abbrev pub refusal_at : ℕ → ℕ → Refusal
+refusal_at n p = record { number = n; place = p }
+
 decide-nil : decide [] ≡ none
 unfolding decide
 decide-nil = refl
 
 -- one condition
-pub decide-yes : (n p : ℕ) {c : Bool} → c ≡ true → decide (try n p c) ≡ some (record { number = n; place = p })
+pub decide-yes : (n p : ℕ) {c : Bool} → c ≡ true → decide (try n p c) ≡ some (refusal_at n p)
 unfolding decide try
 decide-yes n p e = simp e
 
@@ -32,7 +36,7 @@ decide-no n p e = simp e
 pub try_holds : (n p : ℕ) (c : Bool) {r : Refusal} → decide (try n p c) ≡ some r → c ≡ true
 try_holds n p c {r} e = by_cases c (λ h. h) (λ h. absurd (none-ne-some r (sym (decide-no n p h) ∙ e)))
 
-pub decide-try : (n p : ℕ) (c : Bool) → decide (try n p c) ≡ cond c (some (record { number = n; place = p })) none
+pub decide-try : (n p : ℕ) (c : Bool) → decide (try n p c) ≡ cond c (some (refusal_at n p)) none
 unfolding decide try
 decide-try n p c = refl
 
@@ -143,6 +147,6 @@ module _ (n : ℕ) (f : ℕ → Bool) (i m : ℕ) (d : Option Refusal) (e : d �
     unfolding try_each
     tried-passed z = loop-passed (λ p. try n p (f p)) i m d e h (decide-no n i z)
 
-    pub tried-refused : f i ≡ true → some (record { number = n; place = i }) ≡ d
+    pub tried-refused : f i ≡ true → some (refusal_at n i) ≡ d
     unfolding try_each
     tried-refused z = loop-refused (λ p. try n p (f p)) i m d e h _ (decide-yes n i z)

@@ -18,7 +18,7 @@ use Rattle.model.proofs.Opening.{Passes, Passing, start, step}
 use Rattle.journal.specs.Journal.{count, items, tx_in, whole}
 use Rattle.journal.specs.Refusals.{short, truncated, bad_head, malformed, wrong_next, terminated, conflicting, blind, mismatched}
 use Rattle.journal.proofs.Checked.{Sound}
-use Rattle.journal.proofs.Unrefused.{head-head_fields, formed, record-upto, sound-passing, sound-no_blind}
+use Rattle.journal.proofs.Unrefused.{head-head_fields, formed, formed-cases, record-upto, sound-passing, sound-no_blind}
 
 pub passing-whole : (b : List ℕ) → Sound b → Passing (whole b)
 unfolding whole
@@ -70,3 +70,7 @@ pub malformed-tx : (n : ℕ) (r : Record) → malformed n r ≡ false → (1 ≤
 malformed-tx n r h =
     let w = (formed n r h).tx in
     (leb-true _ _ (and_left (leb 1 (tx_in r)) _ w), leb-true _ _ (and_right (leb 1 (tx_in r)) _ w))
+
+-- the item of a read or a write is one of the journal's
+pub malformed-item : (n : ℕ) (r : Record) → malformed n r ≡ false → r.kind ≤ 2 → r.item.0 < n
+malformed-item n r h k = formed-cases n r h (λ e l b. l) (λ e l. l) (λ e b. absurd (omega arith)) (λ e b. absurd (omega arith))

@@ -239,7 +239,7 @@ map-tabulate g f i (suc n) = ap (λ l. g (f i) ∷ l) (map-tabulate g f (suc i) 
 
 -- ---- count_if
 
-pub count_if-zero : (f : ℕ → Bool) (i : ℕ) → count_if f i 0 ≡ 0
+count_if-zero : (f : ℕ → Bool) (i : ℕ) → count_if f i 0 ≡ 0
 unfolding count_if
 count_if-zero f i = refl
 

@@ -6,7 +6,7 @@ use mathlib.Core.List.{[], ◌∷◌}
 use Prim.Native.Nat.{ℕ, zero, suc, ◌+◌, ◌<◌, ◌≤◌}
 use native.Mathlib.Omega.{arith}
 use lib.Dec.{eqb}
-use lib.IntN.{ℤ, pos, neg_ℤ, ◌+ℤ◌, ◌-ℤ◌, +ℤ_assoc, +ℤ_comm, +ℤ_invr, +ℤ_idl, +ℤ_idr}
+use lib.IntN.{ℤ, neg_ℤ, ◌+ℤ◌, ◌-ℤ◌, +ℤ_assoc, +ℤ_comm, +ℤ_invr, +ℤ_idl, +ℤ_idr}
 use borrow.Author.Tests.{eq-eqb, ne_eqb, eqb-true}
 use Rattle.std.proofs.lemmas.Bool.{or_left, or_right}
 use Rattle.lists.specs.Search.{any}
@@ -30,7 +30,7 @@ exchange a b t =
 -- ---- the sum of a table
 
 -- another amount at one place takes the sum along
-pub table_sum-set : (f g : ℕ → ℤ) (x : ℕ) → ((y : ℕ) → eqb x y ≡ false → g y ≡ f y) → (i n : ℕ) → i ≤ x → x < i + n
+table_sum-set : (f g : ℕ → ℤ) (x : ℕ) → ((y : ℕ) → eqb x y ≡ false → g y ≡ f y) → (i n : ℕ) → i ≤ x → x < i + n
     → table_sum (tabulate g i n) ≡ table_sum (tabulate f i n) +ℤ (g x -ℤ f x)
 unfolding table_sum tabulate
 table_sum-set f g x h i zero l u = absurd (omega arith)

@@ -110,7 +110,7 @@ pub left-stands : (k : ℕ → Bool) (o : ℕ → Amount) (j : History) → Ends
 left-stands k o j c h x = replayed-only k (o x) x j (λ s e. committed-unaborted s j c (h s e))
 
 -- every transaction with an operation has an end
-abbrev pub AllEnded : History → Type 0
+abbrev AllEnded : History → Type 0
 AllEnded j = (s : ℕ) → active j s ≡ false
 
 no-op : (f : Op → Bool) (s : ℕ) → OfTx f s → (j : History) → any (of_tx s) j ≡ false → any f j ≡ false

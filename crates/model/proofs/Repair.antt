@@ -142,12 +142,12 @@ module _ (φ : Op → Bool) (law : SourceTest φ) (o : ℕ → Amount) (l : List
         reader-reads_from s h p (tail-ends i) (or-false-right (eqb s v) _ e) r w (sym (reads_from-still φ (abort t v) p s x refl (λ u q. refl)) ∙ f)
     reader-reads_from s h (other t v ∷ p) i e r w f = reader-reads_from s h p (tail-ends i) e r w (sym (reads_from-still φ (other t v) p s x refl (λ u q. refl)) ∙ f)
 
-    -- A kept write's before image is right in the copy. Here, and only here, it matters that the writer has read the item.
-    right-write : (t : Tag) (s : ℕ) (b a : Amount) (p : History) → Upto (write t s x b a ∷ p) j → any (read_of s x) p ≡ true → surviving φ l j s ≡ true
-        → b ≡ stand o (only (surviving φ l j) p) x
-    right-write t s b a p i r h =
+    -- A kept write's before image is right in the copy, where what would feed a read of its item there is kept.
+    right-write : (t : Tag) (s : ℕ) (b a : Amount) (p : History) → Upto (write t s x b a ∷ p) j → ((w : Op) → reads_from φ p s x ≡ some w → surviving φ l j (tx_of w) ≡ true)
+        → surviving φ l j s ≡ true → b ≡ stand o (only (surviving φ l j) p) x
+    right-write t s b a p i n h =
         let m = (legal-ends o k i).1 in
-        m.right ∙ sym (stand-surviving s p (tail-ends i) h m.not_terminated (alone-write o x t s b a p m) (reader-reads_from s h p (tail-ends i) m.not_terminated r))
+        m.right ∙ sym (stand-surviving s p (tail-ends i) h m.not_terminated (alone-write o x t s b a p m) n)
 
   ended-only : (p : History) (r : Op) → surviving φ l j (tx_of r) ≡ true → ended (only (surviving φ l j) p) (tx_of r) ≡ ended p (tx_of r)
   ended-only p r e = any-only (surviving φ l j) (end_of (tx_of r)) (tx_of r) (end-of (tx_of r)) e p
@@ -155,29 +155,45 @@ module _ (φ : Op → Bool) (law : SourceTest φ) (o : ℕ → Amount) (l : List
   by_other-only : (f : Op → Bool) (p : History) (s : ℕ) → by_other f p s ≡ false → by_other f (only (surviving φ l j) p) s ≡ false
   by_other-only f p s h = any-keep-false _ _ (λ r. surviving φ l j (tx_of r)) (λ r e. rw (ended-only p r e)) p h
 
-  legal_step-only : (r : Op) (p : History) → Upto (r ∷ p) j → blind p r ≡ false → surviving φ l j (tx_of r) ≡ true → LegalStep o p r → LegalStep o (only (surviving φ l j) p) r
+  -- what would feed a read of the item that r writes is kept
+  abbrev pub FedByKept : History → Op → Type 0
+  FedByKept p (read t s x) = Unit {0}
+  FedByKept p (write t s x b a) = (w : Op) → reads_from φ p s x ≡ some w → surviving φ l j (tx_of w) ≡ true
+  FedByKept p (commit t s) = Unit {0}
+  FedByKept p (abort t s) = Unit {0}
+  FedByKept p (other t s) = Unit {0}
+
+  legal_step-only : (r : Op) (p : History) → Upto (r ∷ p) j → FedByKept p r → surviving φ l j (tx_of r) ≡ true → LegalStep o p r → LegalStep o (only (surviving φ l j) p) r
   legal_step-only (read t s x) p i d e f = record { not_terminated = ended-only p (read t s x) e ∙ f.not_terminated; not_conflicting = by_other-only (write_to x) p s f.not_conflicting; right = tt }
   legal_step-only (write t s x b a) p i d e f =
       record {
         not_terminated = ended-only p (write t s x b a) e ∙ f.not_terminated;
         not_conflicting = by_other-only (access_to x) p s f.not_conflicting;
-        right = right-write x t s b a p i (not-false _ d) e;
+        right = right-write x t s b a p i d e;
       }
   legal_step-only (commit t s) p i d e f = record { not_terminated = ended-only p (commit t s) e ∙ f.not_terminated; not_conflicting = refl; right = tt }
   legal_step-only (abort t s) p i d e f = record { not_terminated = ended-only p (abort t s) e ∙ f.not_terminated; not_conflicting = refl; right = tt }
   legal_step-only (other t s) p i d e f = record { not_terminated = ended-only p (other t s) e ∙ f.not_terminated; not_conflicting = refl; right = tt }
 
-  legal-only : NoBlindWrites j → (p : History) → Upto p j → Legal o (only (surviving φ l j) p)
+  legal-only : ((r : Op) (p : History) → Upto (r ∷ p) j → surviving φ l j (tx_of r) ≡ true → FedByKept p r) → (p : History) → Upto p j → Legal o (only (surviving φ l j) p)
   legal-only g [] i = tt
   legal-only g (r ∷ p) i =
       by_cases (surviving φ l j (tx_of r))
-      (λ e. rw e (legal-only g p (tail-ends i), legal_step-only r p i (no_blind-ends g i).1 e (legal-ends o k i).1))
+      (λ e. rw e (legal-only g p (tail-ends i), legal_step-only r p i (g r p i e) e (legal-ends o k i).1))
       (λ e. rw e (legal-only g p (tail-ends i)))
 
-  pub survivors-legal : NoBlindWrites j → Legal o (survivors φ l j)
+  pub survivors-legal : ((r : Op) (p : History) → Upto (r ∷ p) j → surviving φ l j (tx_of r) ≡ true → FedByKept p r) → Legal o (survivors φ l j)
   survivors-legal g = legal-only g j all
 
--- ---- rule 8
+  -- ---- rule 8
+
+  -- by it, what feeds a kept transaction's write is kept
+  pub no_blind-fed : NoBlindWrites j → (r : Op) (p : History) → Upto (r ∷ p) j → surviving φ l j (tx_of r) ≡ true → FedByKept p r
+  no_blind-fed g (read t s x) p i h = tt
+  no_blind-fed g (write t s x b a) p i h = reader-reads_from x s h p (tail-ends i) (legal-ends o k i).1.not_terminated (not-false _ (no_blind-ends g i).1)
+  no_blind-fed g (commit t s) p i h = tt
+  no_blind-fed g (abort t s) p i h = tt
+  no_blind-fed g (other t s) p i h = tt
 
 blind-only : (k : ℕ → Bool) (p : History) (r : Op) → k (tx_of r) ≡ true → blind p r ≡ false → blind (only k p) r ≡ false
 blind-only k p (read t s x) e f = f

@@ -70,7 +70,7 @@ module _ (o : ℕ → Amount) (x : ℕ) where
   abbrev pub Alone : History → ℕ → Type 0
   Alone p s = (v : ℕ) → eqb s v ≡ false → ended p v ≡ false → any (write_of v x) p ≡ false
 
-  pub alone : (s : ℕ) (p : History) → Legal o p → ended p s ≡ false → any (write_of s x) p ≡ true → Alone p s
+  alone : (s : ℕ) (p : History) → Legal o p → ended p s ≡ false → any (write_of s x) p ≡ true → Alone p s
   alone s p k a w v n b =
       by_cases (any (write_of v x) p) (λ q. absurd (excl s v n p k a b (any-mono (write_of s x) (access_of s x) (write-access s x) p w) q)) (λ q. q)
 

@@ -19,7 +19,7 @@ use Rattle.journal.specs.Journal.{items, tx_in, op_of, history}
 use Rattle.journal.specs.Refusals.{malformed}
 use Rattle.journal.proofs.Records.{tx_of-op_of, tag_of-op_of, history-suc}
 use Rattle.journal.proofs.Unrefused.{op_of-read, op_of-write, op_of-commit, op_of-abort}
-use Rattle.fields.proofs.Fields.{formed-range}
+use Rattle.journal.proofs.Passing.{malformed-tx}
 use Rattle.arrays.specs.declared.Touched.{Touched}
 use Rattle.arrays.specs.Recent.{last_write, by_tx}
 use Rattle.arrays.specs.Arrays.{Ready, Linked, State, ends_of, firsts_of, writes_of, bases_of, reads_of, read_before}
@@ -94,7 +94,7 @@ module _ (b : List ℕ) (n : ℕ) (r : Record) (ends firsts writes bases reads l
 
   now-first : firsts' ≡ firsts_of (op_of (suc n) r ∷ history b n)
   now-first =
-      let g = formed-range (items b) r f in
+      let g = malformed-tx (items b) r f in
       let h : tx_in (record_at b (suc n)) < 1025 = rw (← here) (omega arith) in
       i ∙ rw (add-one, here) (firsts-step b n firsts h s.begun)
 
@@ -161,7 +161,7 @@ module _ (b : List ℕ) (n : ℕ) (r : Record) (ends firsts writes bases reads l
 
 module _ (b : List ℕ) (n : ℕ) (r : Record) (k : Ready b n) (f : malformed (items b) r ≡ false) where
   pub next-low : tx_in r < 1025
-  next-low = let g = formed-range (items b) r f in omega arith
+  next-low = let g = malformed-tx (items b) r f in omega arith
 
   pub read-low : r.kind ≡ 1 → r.item.0 < 1024
   read-low = item-read b n r k f

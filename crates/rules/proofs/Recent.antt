@@ -2,7 +2,7 @@
 -- writer and the reads since its last write matter.
 -- Assumes nothing.
 use mathlib.Core.Path.{◌≡◌, refl, sym, ◌∙◌, ap, subst}
-use mathlib.Core.Bool.{Bool, false≢true, true, false, cond, not, ◌&&◌, ◌||◌, and-false}
+use mathlib.Core.Bool.{Bool, false≢true, true, false, cond, not, ◌&&◌, ◌||◌, and-false, or-false}
 use mathlib.Core.List.{[], ◌∷◌}
 use mathlib.Core.Option.{Option, none, some}
 use Prim.Native.Nat.{ℕ}
@@ -13,9 +13,9 @@ use Rattle.std.proofs.lemmas.Bool.{and_from, not-true, or_left, or_right}
 use Rattle.lists.specs.Search.{any, or_else, first}
 use Rattle.lists.proofs.BoolLaws.{by_cases, or_cases, and_left, and_right, or-false-right, same_truth}
 use Rattle.lists.proofs.SearchLaws.{any-mono, any_some, any-latest, latest-passes, first-none, first_some}
-use Rattle.model.specs.History.{Op, History, Amount, read, write, commit, abort, other, tx_of, before_of, after_of, of_tx, read_of, write_of, access_of, write_to, access_to, ended, before_in, current, initial, standing}
+use Rattle.model.specs.History.{Op, History, Amount, read, write, commit, abort, other, tx_of, before_of, after_of, of_tx, read_of, write_of, access_of, write_to, access_to, by_kind, item_of, never, ended, before_in, current, initial, standing}
 use Rattle.model.specs.Rules.{by_other}
-use Rattle.model.proofs.Ends.{read-of, write-of, access-of, access-to, read-access, write-touch}
+use Rattle.model.proofs.Ends.{access-of, access-to, write-access}
 use Rattle.model.proofs.Legal.{NoBlindWrites}
 use Rattle.model.proofs.Strict.{neq-sym, not_conflicting-any}
 use Rattle.model.proofs.Opening.{Passing, step}
@@ -36,61 +36,54 @@ other-active p s v = ap (λ e. not (eqb s v) && e) (sym (active-code p v))
 -- ---- an open transaction: what it did to item x
 
 module _ (x v : ℕ) where
-  -- it has written the item, if and only if it wrote it last
-  open-writes : (p : History) → Passing p → ended p v ≡ false → any (write_of v x) p ≡ by_tx (last_write p x) v
-  open-writes [] k e = refl
-  open-writes (read t u y ∷ p) (step k l) e = open-writes p k e
-  open-writes (write t u y b a ∷ p) (step k l) e =
-      by_cases (eqb x y)
-      (λ q. let xy = eqb-true x y q in
-      by_cases (eqb v u)
-      (λ g. rw (q, g))
-      (λ g. rw (q, g) (not_conflicting-any (access_to x) (write_of v x) p u v (write-of v x) (write-touch v x) (rw (← xy) at l.not_conflicting) (neq-sym v u g) e)))
-      (λ q. rw (q, and-false (eqb v u)) (open-writes p k e))
-  open-writes (commit t u ∷ p) (step k l) e = open-writes p k (or-false-right (eqb v u) _ e)
-  open-writes (abort t u ∷ p) (step k l) e = open-writes p k (or-false-right (eqb v u) _ e)
-  open-writes (other t u ∷ p) (step k l) e = open-writes p k e
+  -- a write of the item or, with r, a read of it
+  abbrev touch_of : Bool → Op → Bool
+  touch_of r = by_kind (λ u y. r && item_of v x u y) (λ u y b a. item_of v x u y) never never
 
-  -- where each write follows a read, it has read the item, if and only if it wrote it last or has read it since
-  pub open-reads : (p : History) → Passing p → NoBlindWrites p → ended p v ≡ false → any (read_of v x) p ≡ by_tx (last_write p x) v || any (of_tx v) (reads_since x p)
-  open-reads [] k g e = refl
-  open-reads (read t u y ∷ p) (step k l) g e =
-      by_cases (eqb x y)
-      (λ q. by_cases (eqb v u)
-      (λ w. rw (q, w) (sym (or_right (by_tx (last_write p x) v) true refl)))
-      (λ w. rw (q, w) (open-reads p k g.0 e)))
-      (λ q. rw (q, and-false (eqb v u)) (open-reads p k g.0 e))
-  open-reads (write t u y b a ∷ p) (step k l) g e =
-      by_cases (eqb x y)
-      (λ q. let xy = eqb-true x y q in
-      by_cases (eqb v u)
-      (λ w. rw (q, w)
-      (subst (λ z. any (read_of z x) p ≡ true) (sym (eqb-true v u w)) (subst (λ z. any (read_of u z) p ≡ true) (sym xy) (not-false _ g.1))))
-      (λ w. rw (q, w) (not_conflicting-any (access_to x) (read_of v x) p u v (read-of v x) (λ r z. access-to v x r (read-access v x r z)) (rw (← xy) at l.not_conflicting) (neq-sym v u w) e)))
-      (λ q. rw q (open-reads p k g.0 e))
-  open-reads (commit t u ∷ p) (step k l) g e = open-reads p k g.0 (or-false-right (eqb v u) _ e)
-  open-reads (abort t u ∷ p) (step k l) g e = open-reads p k g.0 (or-false-right (eqb v u) _ e)
-  open-reads (other t u ∷ p) (step k l) g e = open-reads p k g.0 e
+  touch-access : (r : Bool) (o : Op) → touch_of r o ≡ true → access_of v x o ≡ true
+  touch-access true o h = h
+  touch-access false o h = write-access v x o h
 
-  -- it has read or written the item
-  open-accesses : (p : History) → Passing p → ended p v ≡ false → any (access_of v x) p ≡ by_tx (last_write p x) v || any (of_tx v) (reads_since x p)
-  open-accesses [] k e = refl
-  open-accesses (read t u y ∷ p) (step k l) e =
+  -- there is one, if and only if it wrote the item last or, with r, has read it since
+  open-touches : (r : Bool) (p : History) → Passing p → ended p v ≡ false → any (touch_of r) p ≡ by_tx (last_write p x) v || (r && any (of_tx v) (reads_since x p))
+  open-touches r [] k e = sym (and-false r)
+  open-touches false (read t u y ∷ p) (step k l) e = open-touches false p k e
+  open-touches true (read t u y ∷ p) (step k l) e =
       by_cases (eqb x y)
       (λ q. by_cases (eqb v u)
       (λ g. rw (q, g) (sym (or_right (by_tx (last_write p x) v) true refl)))
-      (λ g. rw (q, g) (open-accesses p k e)))
-      (λ q. rw (q, and-false (eqb v u)) (open-accesses p k e))
-  open-accesses (write t u y b a ∷ p) (step k l) e =
+      (λ g. rw (q, g) (open-touches true p k e)))
+      (λ q. rw (q, and-false (eqb v u)) (open-touches true p k e))
+  open-touches r (write t u y b a ∷ p) (step k l) e =
       by_cases (eqb x y)
       (λ q. let xy = eqb-true x y q in
       by_cases (eqb v u)
       (λ g. rw (q, g))
-      (λ g. rw (q, g) (not_conflicting-any (access_to x) (access_of v x) p u v (access-of v x) (access-to v x) (rw (← xy) at l.not_conflicting) (neq-sym v u g) e)))
-      (λ q. rw (q, and-false (eqb v u)) (open-accesses p k e))
-  open-accesses (commit t u ∷ p) (step k l) e = open-accesses p k (or-false-right (eqb v u) _ e)
-  open-accesses (abort t u ∷ p) (step k l) e = open-accesses p k (or-false-right (eqb v u) _ e)
-  open-accesses (other t u ∷ p) (step k l) e = open-accesses p k e
+      (λ g. rw (q, g, and-false r)
+      (not_conflicting-any (access_to x) (touch_of r) p u v (λ o h. access-of v x o (touch-access r o h)) (λ o h. access-to v x o (touch-access r o h)) (rw (← xy) at l.not_conflicting) (neq-sym v u g) e)))
+      (λ q. rw (q, and-false (eqb v u)) (open-touches r p k e))
+  open-touches r (commit t u ∷ p) (step k l) e = open-touches r p k (or-false-right (eqb v u) _ e)
+  open-touches r (abort t u ∷ p) (step k l) e = open-touches r p k (or-false-right (eqb v u) _ e)
+  open-touches r (other t u ∷ p) (step k l) e = open-touches r p k e
+
+  open-writes : (p : History) → Passing p → ended p v ≡ false → any (write_of v x) p ≡ by_tx (last_write p x) v
+  open-writes p k e = open-touches false p k e ∙ or-false (by_tx (last_write p x) v)
+
+  -- where each write follows a read, it has read what it has read or written
+  reads-accesses : (p : History) → NoBlindWrites p → any (read_of v x) p ≡ any (access_of v x) p
+  reads-accesses [] g = refl
+  reads-accesses (read t u y ∷ p) g = ap (λ a. item_of v x u y || a) (reads-accesses p g.0)
+  reads-accesses (write t u y b a ∷ p) g =
+      by_cases (item_of v x u y)
+      (λ q. rw q
+      (subst (λ z. any (read_of z x) p ≡ true) (sym (eqb-true v u (and_left (eqb v u) _ q))) (subst (λ z. any (read_of u z) p ≡ true) (sym (eqb-true x y (and_right (eqb v u) _ q))) (not-false _ g.1))))
+      (λ q. rw q (reads-accesses p g.0))
+  reads-accesses (commit t u ∷ p) g = reads-accesses p g.0
+  reads-accesses (abort t u ∷ p) g = reads-accesses p g.0
+  reads-accesses (other t u ∷ p) g = reads-accesses p g.0
+
+  pub open-reads : (p : History) → Passing p → NoBlindWrites p → ended p v ≡ false → any (read_of v x) p ≡ by_tx (last_write p x) v || any (of_tx v) (reads_since x p)
+  open-reads p k g e = reads-accesses p g ∙ open-touches true p k e
 
 -- ---- rules 7 and 8
 
@@ -150,7 +143,7 @@ module _ (p : History) (k : Passing p) where
           let v = tx_of r in
           let o = and_right (access_to x r) _ t in
           let a = h (access_of v x) (own-access r x (and_left (access_to x r) _ t)) in
-          or_cases (by_tx (last_write p x) v) (any (of_tx v) (reads_since x p)) (sym (open-accesses x v p k (open_of s v o)) ∙ a)
+          or_cases (by_tx (last_write p x) v) (any (of_tx v) (reads_since x p)) (sym (open-touches x v true p k (open_of s v o)) ∙ a)
           (λ w. or_left _ (read_by_other p s x) (by-tx-self s v (last_write p x) w o))
           (λ w. or_right (by_other_active p s (last_write p x)) _
           (any-mono (of_tx v) (λ r. other_active p s (tx_of r)) (λ q g. other-active p s (tx_of q) ∙ (rw (eqb-true v (tx_of q) g) at o)) (reads_since x p) w))
@@ -159,7 +152,7 @@ module _ (p : History) (k : Passing p) where
       access v o h =
           any-mono (access_of v x) (λ r. access_to x r && strange s r)
           (λ r g. and_from _ _ (access-to v x r g) (rw (access-of v x r g) at o)) p
-          (open-accesses x v p k (open_of s v o) ∙ h)
+          (open-touches x v true p k (open_of s v o) ∙ h)
 
       writer : (o : Option Op) → last_write p x ≡ o → by_other_active p s o ≡ true → by_other (access_to x) p s ≡ true
       writer none q h = absurd (false≢true h)

@@ -10,22 +10,21 @@ use native.Mathlib.Omega.{arith}
 use lib.IntN.{pos}
 use lib.Dec.{eqb}
 use lib.ListN.{get_or}
-use borrow.Author.Tests.{ne_eqb}
 use mir.Syntax.{w32}
 use mir.Val.{to_z, of_z, SFits}
 use mir.ValLaws.{to_z-of_z}
 use Rattle.lists.specs.Search.{any, or_else}
 use Rattle.lists.proofs.SearchLaws.{latest-passes, any-latest, latest-none}
 use Rattle.format.specs.declared.Record.{Record}
-use Rattle.model.specs.History.{Op, History, Amount, Tag, same_amount, read, write, commit, abort, other, tx_of, write_to, ended, standing}
-use Rattle.model.specs.Rules as rules
+use Rattle.model.specs.History.{Op, History, Amount, Tag, same_amount, read, write, tx_of, write_to, ended, standing}
 use Rattle.journal.specs.Journal.{tx_in, op_of, history}
 use Rattle.journal.specs.Refusals.{malformed, terminated, conflicting, blind, mismatched}
 use Rattle.journal.specs.Orders.{Refusal, access_order, rule_order, decide}
 use Rattle.journal.proofs.Records.{tx_of-op_of}
 use Rattle.journal.proofs.Unrefused.{op_of-read, op_of-write}
-use Rattle.journal.proofs.OrdersLaws.{or_else-none, decide-try, decide-turn, decide-over}
-use Rattle.fields.proofs.Fields.{same_bits, formed-range}
+use Rattle.journal.proofs.Passing.{malformed-tx}
+use Rattle.journal.proofs.OrdersLaws.{refusal_at, or_else-none, decide-try, decide-turn, decide-over}
+use Rattle.fields.proofs.Fields.{same_bits}
 use Rattle.arrays.specs.declared.Touched.{Touched}
 use Rattle.arrays.specs.declared.end.End.{End}
 use Rattle.arrays.specs.declared.end.End.TheVariants.{Open, Committed, Aborted}
@@ -35,7 +34,7 @@ use Rattle.arrays.specs.Arrays.{Ready, NoBlindTo, ends_of, writes_of}
 use Rattle.arrays.specs.Writers.{writer_of}
 use Rattle.arrays.proofs.EndCodes.{ended-code}
 use Rattle.arrays.proofs.Found.{passing-history, no_blind-history}
-use Rattle.arrays.proofs.ArraysLaws.{ends-array}
+use Rattle.arrays.proofs.ArraysLaws.{ends-array, by-access}
 use Rattle.arrays.proofs.WriterLaws.{code-at, last_none, last_some}
 use Rattle.rules.specs.Standing.{unlike_standing}
 use Rattle.rules.specs.Readers.{readers_of}
@@ -43,7 +42,7 @@ use Rattle.rules.proofs.Recent.{open-reads, other-writer, other-access}
 
 -- what is returned for number k at record i
 abbrev pub at : ℕ → ℕ → Option Refusal
-at k i = some (record { number = k; place = i })
+at k i = some (refusal_at k i)
 
 -- 7 and 8 of an operation, by their conditions
 abbrev later : Bool → Bool → ℕ → Option Refusal
@@ -119,7 +118,7 @@ module _ (b : List ℕ) (n s : ℕ) (k : Ready b n) (l : s < 1025) (ends : List 
 -- of a record that is not malformed
 module _ (b : List ℕ) (n m : ℕ) (r : Record) (k : Ready b n) (f : malformed m r ≡ false) where
   pub tx-low : tx_in r < 1025
-  tx-low = let a = formed-range m r f in omega arith
+  tx-low = let a = malformed-tx m r f in omega arith
 
   module _ (ends : List End) (g : codes ends ≡ ends_of (history b n)) where
     -- 6
@@ -133,19 +132,10 @@ module _ (b : List ℕ) (n m : ℕ) (r : Record) (k : Ready b n) (f : malformed 
 
     -- an end
     pub access_end : get_or ends (tx_in r) Open ≡ Open → (r.kind ≡ 1 → ⊥) → (r.kind ≡ 2 → ⊥) → none ≡ decide (access_order (history b n) (n + 1) (op_of (n + 1) r))
-    unfolding op_of conflicting blind
+    unfolding conflicting blind
     access_end z c d =
-        rw (rest b n (tx_in r) k tx-low ends g z (op_of (n + 1) r) (tx_of-op_of (n + 1) r), ne_eqb r.kind 1 c, ne_eqb r.kind 2 d)
-        (two (eqb r.kind 3) (eqb r.kind 4))
-      where
-        of : Bool → Bool → Op
-        of e g = cond e (commit (n + 1) (tx_in r)) (cond g (abort (n + 1) (tx_in r)) (other (n + 1) (tx_in r)))
-
-        two : (e g : Bool)
-            → none ≡ later (rules.conflicting (history b n) (of e g)) (rules.blind (history b n) (of e g)) (n + 1)
-        two true g = refl
-        two false true = refl
-        two false false = refl
+        rw (rest b n (tx_in r) k tx-low ends g z (op_of (n + 1) r) (tx_of-op_of (n + 1) r))
+        (by-access (λ o. none ≡ later (conflicting (history b n) o) (blind (history b n) o) (n + 1)) (n + 1) r (λ e. absurd (c e)) (λ e. absurd (d e)) refl refl refl)
 
 -- what is found of the read or the write that a record is, is found of the record
 module _ (p : History) (i : Tag) (r : Record) (v : Option Refusal) where
@@ -190,14 +180,7 @@ module _ (p : History) (i : Tag) (r : Record) where
     differs-write m e f q y = rw (rule-parts p i (op_of i r), ← h, matched-is m e f q, y)
 
     pub stands-other : (r.kind ≡ 2 → ⊥) → none ≡ decide (rule_order p i (op_of i r))
-    unfolding op_of mismatched
-    stands-other d = rw (rule-parts p i (op_of i r), ← h, ne_eqb r.kind 2 d) (three (eqb r.kind 1) (eqb r.kind 3) (eqb r.kind 4))
-      where
-        of : Bool → Bool → Bool → Op
-        of l e g = cond l (read i (tx_in r) r.item.0) (cond e (commit i (tx_in r)) (cond g (abort i (tx_in r)) (other i (tx_in r))))
-
-        three : (l e g : Bool) → none ≡ cond (rules.mismatched p (of l e g)) (at 9 i) none
-        three true e g = refl
-        three false true g = refl
-        three false false true = refl
-        three false false false = refl
+    unfolding mismatched
+    stands-other d =
+        rw (rule-parts p i (op_of i r), ← h)
+        (by-access (λ o. none ≡ cond (mismatched p o) (at 9 i) none) i r (λ e. refl) (λ e. absurd (d e)) refl refl refl)

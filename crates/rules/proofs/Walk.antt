@@ -1,8 +1,7 @@
 -- The reads of an item since its last write, followed from the newest to the one before it.
 -- Assumes nothing.
 use mathlib.Core.Path.{◌≡◌, refl, sym, ◌∙◌, ap}
-use mathlib.Core.Bool.{Bool, true, false, cond, ◌||◌}
-use mathlib.Core.Logic.{◌⊎◌, inl, inr, ⊎_elim}
+use mathlib.Core.Bool.{Bool, false, ◌||◌}
 use mathlib.Core.List.{List, [], ◌∷◌}
 use Prim.Native.Nat.{ℕ, zero, suc, ◌<◌, ◌≤◌, pred}
 use native.Mathlib.Omega.{arith}
@@ -10,11 +9,11 @@ use lib.Dec.{eqb}
 use borrow.Author.Tests.{eqb-true, eq-eqb}
 use Rattle.lists.specs.Search.{any}
 use Rattle.lists.proofs.BoolLaws.{by_cases}
-use Rattle.format.specs.declared.Record.{Record}
 use Rattle.format.specs.Layout.{record_at}
-use Rattle.model.specs.History.{Op, History, Tag, read, write, commit, abort, other, tx_of}
+use Rattle.model.specs.History.{read, tx_of}
 use Rattle.journal.specs.Journal.{tx_in, op_of, history}
 use Rattle.journal.proofs.Unrefused.{op_of-read}
+use Rattle.arrays.proofs.ArraysLaws.{by-access}
 use Rattle.arrays.specs.Recent.{reads_since, newest}
 use Rattle.arrays.specs.Arrays.{read_before}
 
@@ -32,20 +31,6 @@ pub data Newest (b : List ℕ) (x n : ℕ) : ℕ → Type 0 where
   no_read : reads_since x (history b n) ≡ [] → Newest b x n 0
   read_at : {k : ℕ} → k < n → ReadAt b x (suc k) → reads_since x (history b n) ≡ reads_since x (history b (suc k)) → Newest b x n (suc k)
 
--- what is no read of the item leaves its reads, or none
-other-op : (i : Tag) (r : Record) (x : ℕ) (p : History) → eqb r.kind 1 ≡ false → (reads_since x (op_of i r ∷ p) ≡ []) ⊎ (reads_since x (op_of i r ∷ p) ≡ reads_since x p)
-unfolding op_of
-other-op i r x p e = rw e (four (eqb r.kind 2) (eqb r.kind 3) (eqb r.kind 4))
-  where
-    of : Bool → Bool → Bool → Op
-    of l m n = cond l (write i (tx_in r) r.item.0 r.before r.after) (cond m (commit i (tx_in r)) (cond n (abort i (tx_in r)) (other i (tx_in r))))
-
-    four : (l m n : Bool) → (reads_since x (of l m n ∷ p) ≡ []) ⊎ (reads_since x (of l m n ∷ p) ≡ reads_since x p)
-    four true m n = by_cases (eqb x r.item.0) (λ q. inl (rw q)) (λ q. inr (rw q))
-    four false true n = inr refl
-    four false false true = inr refl
-    four false false false = inr refl
-
 longer : {b : List ℕ} {x n k : ℕ} → reads_since x (history b (suc n)) ≡ reads_since x (history b n) → Newest b x n k → Newest b x (suc n) k
 longer e (no_read z) = no_read (e ∙ z)
 longer e (read_at {k} h r z) = read_at {k = k} (omega arith) r (e ∙ z)
@@ -55,19 +40,14 @@ unfolding history
 newest-read b x zero = no_read refl
 newest-read b x (suc n) =
     let r = record_at b (suc n) in
+    let p = history b n in
     let ih = newest-read b x n in
-    by_cases (eqb r.kind 1)
-    (λ e. let k = eqb-true r.kind 1 e in
-    let o : op_of (suc n) r ≡ read (suc n) (tx_in r) r.item.0 = op_of-read (suc n) r k in
-    by_cases (eqb x r.item.0)
-    (λ q. let z : newest (reads_since x (history b (suc n))) ≡ suc n = rw (o, q) in
-    rw z (read_at {k = n} (omega arith) (record { kind = k; item = sym (eqb-true x r.item.0 q) }) refl))
-    (λ q. let z : reads_since x (history b (suc n)) ≡ reads_since x (history b n) = rw (o, q) in
-    rw z (longer z ih)))
-    (λ e. ⊎_elim
-    (λ (z : reads_since x (history b (suc n)) ≡ []). rw z (no_read z))
-    (λ (z : reads_since x (history b (suc n)) ≡ reads_since x (history b n)). rw z (longer z ih))
-    (other-op (suc n) r x (history b n) e))
+    by-access (λ o. reads_since x (history b (suc n)) ≡ reads_since x (o ∷ p) → Newest b x (suc n) (newest (reads_since x (o ∷ p)))) (suc n) r
+    (λ k z. by_cases (eqb x r.item.0)
+    (λ q. rw q (read_at {k = n} (omega arith) (record { kind = k; item = sym (eqb-true x r.item.0 q) }) refl))
+    (λ q. rw q (longer (rw q at z) ih)))
+    (λ k z. by_cases (eqb x r.item.0) (λ q. rw q (no_read (rw q at z))) (λ q. rw q (longer (rw q at z) ih)))
+    (λ z. longer z ih) (λ z. longer z ih) (λ z. longer z ih) refl
 
 newest-same : {b : List ℕ} {x n k : ℕ} → Newest b x n k → reads_since x (history b n) ≡ reads_since x (history b k)
 unfolding history

@@ -16,7 +16,7 @@ use Rattle.journal.specs.Journal.{items, op_of, history}
 use Rattle.journal.specs.Refusals.{malformed, wrong_next}
 use Rattle.journal.specs.Orders.{Refusal, rule_order, record_order, decide}
 use Rattle.journal.proofs.OrdersLaws.{or_else-none, decide-try, decide-turn, decide-over}
-use Rattle.fields.proofs.Fields.{formed-range}
+use Rattle.journal.proofs.Passing.{malformed-tx}
 use Rattle.arrays.specs.Arrays.{Ready}
 use Rattle.arrays.proofs.Found.{passed-right}
 use Rattle.rules.proofs.RuleLaws.{at}
@@ -40,7 +40,7 @@ module _ (b : List ℕ) (n m : ℕ) (r : Record) (h : Bool) (k : Ready b n) (e :
     module _ (low c : ℕ) (a : low ≡ lowest_broken b 1 c) (i : n < c) where
       chain-is : eqb (n + 1) low ≡ wrong_next b (n + 1)
       chain-is =
-          let u = formed-range (items b) r record-formed in
+          let u = malformed-tx (items b) r record-formed in
           rw (a, add-one)
           (lowest-here b n c i before (rw (← (rw add-one at e)) u.1))
         where

@@ -4,24 +4,24 @@ use mathlib.Core.Path.{◌≡◌, refl, sym, ◌∙◌, ap}
 use mathlib.Core.Bool.{Bool, true, false, not, and-true, and-false}
 use mathlib.Core.Logic.{◌⊎◌, inl, inr}
 use mathlib.Core.List.{List}
-use mathlib.Core.Option.{none, some}
+use mathlib.Core.Option.{some}
 use Prim.Native.Nat.{ℕ, ◌+◌, ◌-◌, ◌<◌}
 use native.Mathlib.Omega.{arith}
 use lib.IntN.{pos}
 use lib.Dec.{eqb}
 use lib.ListN.{get_or}
-use borrow.Author.Tests.{ne_eqb, not-true, not-false}
+use borrow.Author.Tests.{not-true, not-false}
 use mir.Syntax.{w32}
 use mir.Val.{to_z, of_z, SFits}
 use mir.ValLaws.{to_z-of_z}
-use Rattle.lists.specs.Search.{any, first}
+use Rattle.lists.specs.Search.{any}
 use Rattle.lists.specs.Tables.{count_if}
 use Rattle.lists.proofs.BoolLaws.{by_cases, clash}
-use Rattle.lists.proofs.SearchLaws.{latest-none, first-none, first_some}
+use Rattle.lists.proofs.SearchLaws.{latest-none}
 use Rattle.lists.proofs.TablesLaws.{count_if-ext}
-use Rattle.model.specs.History.{Op, Amount, same_amount, write_to, of_tx, tag_in, ended, active, standing}
+use Rattle.model.specs.History.{Amount, same_amount, write_to, of_tx, ended, active, standing}
 use Rattle.model.proofs.Amounts.{same-eq}
-use Rattle.journal.specs.Inputs.{inputs_of}
+use Rattle.journal.specs.Inputs.{Inputs}
 use Rattle.journal.specs.Journal.{count, items, history, whole, amount_at}
 use Rattle.journal.specs.Refusals.{unsettled}
 use Rattle.journal.specs.Orders.{try_each, settled_order, decide}
@@ -31,7 +31,7 @@ use Rattle.arrays.specs.declared.end.End.TheVariants.{Open, Committed, Aborted}
 use Rattle.arrays.specs.Ends.{code_of, codes}
 use Rattle.arrays.specs.Arrays.{Ready, ends_of, firsts_of, writes_of}
 use Rattle.arrays.proofs.EndCodes.{active-code}
-use Rattle.arrays.proofs.Found.{first_found, found_none}
+use Rattle.arrays.proofs.Found.{first_any}
 use Rattle.arrays.proofs.ArraysLaws.{ends-array, firsts-array}
 use Rattle.arrays.proofs.WriterLaws.{code-at, last_none}
 use Rattle.rules.specs.Standing.{unlike_standing}
@@ -67,29 +67,19 @@ module _ (b : List ℕ) (n x : ℕ) (l : List ℕ) (t : List Amount) (ends : Lis
   settled-by r f q = q ∙ ap not (rw (to_z-of_z w32 (amount_at t x) f) settled-is)
 
 -- the loop over the items: p tests item x
-module _ (b : List ℕ) (t : List Amount) where
-  pub settle-start : (m : ℕ) → m ≡ items b → decide (settled_order (inputs_of b t)) ≡ decide (try_each 10 (unsettled b t) 0 (m - 0))
+module _ (d : Inputs) where
+  pub settle-start : (m : ℕ) → m ≡ items d.journal → decide (settled_order d) ≡ decide (try_each 10 (unsettled d.journal d.table) 0 (m - 0))
   unfolding settled_order
-  settle-start m e = let f : m - 0 ≡ items b = omega arith in rw f
+  settle-start m e = let f : m - 0 ≡ items d.journal = omega arith in rw f
 
-  module _ (x m : ℕ) (l : decide (settled_order (inputs_of b t)) ≡ decide (try_each 10 (unsettled b t) x (m - x))) (h : x < m) (p : Bool) (q : p ≡ not (unsettled b t x)) where
-    pub settle-more : p ≡ true → decide (settled_order (inputs_of b t)) ≡ decide (try_each 10 (unsettled b t) (x + 1) (m - (x + 1)))
-    settle-more e = tried-passed 10 (unsettled b t) x m (decide (settled_order (inputs_of b t))) l h (not-true _ (sym q ∙ e))
+  module _ (x m : ℕ) (l : decide (settled_order d) ≡ decide (try_each 10 (unsettled d.journal d.table) x (m - x))) (h : x < m) (p : Bool) (q : p ≡ not (unsettled d.journal d.table x)) where
+    pub settle-more : p ≡ true → decide (settled_order d) ≡ decide (try_each 10 (unsettled d.journal d.table) (x + 1) (m - (x + 1)))
+    settle-more e = tried-passed 10 (unsettled d.journal d.table) x m (decide (settled_order d)) l h (not-true _ (sym q ∙ e))
 
-    pub settle-refused : p ≡ false → some (record { number = 10; place = x }) ≡ decide (settled_order (inputs_of b t))
-    settle-refused e = tried-refused 10 (unsettled b t) x m (decide (settled_order (inputs_of b t))) l h (not-false _ (sym q ∙ e))
+    pub settle-refused : p ≡ false → some (record { number = 10; place = x }) ≡ decide (settled_order d)
+    settle-refused e = tried-refused 10 (unsettled d.journal d.table) x m (decide (settled_order d)) l h (not-false _ (sym q ∙ e))
 
 -- ---- active transactions
-
-first_any : (f : Op → Bool) (b : List ℕ) (n : ℕ) → any f (history b n) ≡ not (eqb (tag_in (first f (history b n))) 0)
-first_any f b n =
-    by_cases (any f (history b n))
-    (λ e. let (w, q, t) = first_some f (history b n) e in
-    rw (e, ne_eqb (tag_in (first f (history b n))) 0 (λ z. none-some w (sym (found_none (first_found f b n) z) ∙ q))))
-    (λ e. rw (e, first-none f (history b n) e))
-  where
-    none-some : (w : Op) → none ≡ some w → ⊥
-    none-some w h = let z : ◌≡◌ {A = ℕ} 0 1 = cc in omega arith
 
 module _ (b : List ℕ) (n s : ℕ) (ends : List End) (firsts : List ℕ) (e : codes ends ≡ ends_of (history b n)) (f : firsts ≡ firsts_of (history b n)) (h : s < 1025) where
   begun-is : not (eqb (get_or firsts s 0) 0) ≡ any (of_tx s) (history b n)

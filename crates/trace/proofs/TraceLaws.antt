@@ -1,7 +1,7 @@
 -- The trace: what one record does to the arrays, and the arrays after n records, from any arrays and from the list.
 -- Assumes nothing.
 use mathlib.Core.Path.{◌≡◌, refl, sym, ◌∙◌, ap}
-use mathlib.Core.Bool.{Bool, false, not, ◌&&◌, and-false}
+use mathlib.Core.Bool.{Bool, true, false, not, ◌&&◌, and-false}
 use mathlib.Core.List.{List, [], ◌∷◌}
 use mathlib.Core.Option.{Option}
 use Prim.Native.Nat.{ℕ, zero, suc, ◌≤◌, ◌<◌}
@@ -18,7 +18,6 @@ use Rattle.format.specs.declared.TransactionId.{TransactionId}
 use Rattle.format.specs.Layout.{record_at}
 use Rattle.model.specs.History.{Op, History, read, write, commit, abort, other}
 use Rattle.model.specs.Undo.{is_source, source_by}
-use Rattle.model.proofs.ReadsFromLaws.{is_source-write}
 use Rattle.journal.specs.Journal.{items, tx_in, op_of, history}
 use Rattle.journal.proofs.Records.{tx_of-op_of, history-zero, history-suc}
 use Rattle.journal.proofs.Unrefused.{op_of-read, op_of-write}
@@ -41,9 +40,13 @@ module _ (i : ℕ) (r : Record) (ends : List ℕ) (sources : List TransactionId)
   unfolding flags_after sources_after
   step-read k = rw (op_of-read i r k)
 
-  pub step-write : r.kind ≡ 2 → Step i r ends sources flags (sources_write ends (tx_in r) r.item.0 sources, flags)
+  pub step-write : r.kind ≡ 2 → is_source (write i (tx_in r) r.item.0 r.before r.after) ≡ true → Step i r ends sources flags (sources_write ends (tx_in r) r.item.0 sources, flags)
   unfolding flags_after sources_after
-  step-write k = rw (op_of-write i r k, is_source-write i (tx_in r) r.item.0 r.before r.after)
+  step-write k e = rw (op_of-write i r k, e)
+
+  pub step-unfeeding : r.kind ≡ 2 → is_source (write i (tx_in r) r.item.0 r.before r.after) ≡ false → Step i r ends sources flags (sources, flags)
+  unfolding flags_after sources_after
+  step-unfeeding k e = rw (op_of-write i r k, e)
 
   pub step-other : (r.kind ≡ 1 → ⊥) → (r.kind ≡ 2 → ⊥) → Step i r ends sources flags (sources, flags)
   unfolding flags_after sources_after

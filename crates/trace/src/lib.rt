@@ -1,10 +1,12 @@
 // The undo set: each transaction's fate, from one pass over a journal whose records passed.
 #![tactic(auto)]
 
-ghost use Rattle.std.specs.Prelude.{◌≡◌, ◌+◌, ◌≤◌, length};
+ghost use Rattle.std.specs.Prelude.{◌≡◌, ℕ, ◌+◌, ◌≤◌, length};
 ghost use Rattle.lists.specs.Tables.{stepped};
 ghost use Rattle.format.specs.Layout.{record_at};
 ghost use Rattle.format.specs.Limits.{journal_bytes, max_records};
+ghost use Rattle.model.specs.History.{write};
+ghost use Rattle.model.specs.Undo.{is_source};
 ghost use Rattle.journal.specs.Journal.{history};
 ghost use Rattle.journal.specs.Calls.{statuses};
 ghost use Rattle.arrays.specs.Arrays.{Ready, IsEnds};
@@ -71,7 +73,14 @@ fn trace_read(sources: &[TransactionId], r: Record, flags: &mut [bool])
     }
 }
 
-// A write, which feeds later reads if its transaction commits.
+// Whether a write may feed a later read. Document 01: every write.
+fn may_feed(_r: Record) -> bool
+    ensures { (i : ℕ) → result ≡ is_source (write i _r.transaction.0 _r.item.0 _r.before _r.after) }
+{
+    true
+}
+
+// A write that may feed: it feeds later reads if its transaction commits.
 fn trace_write(ends: &[End], r: Record, sources: &mut [TransactionId])
     ensures { sources.new ≡ sources_write (codes ends.now) r.transaction.0 r.item.0 sources.old }
 {
@@ -95,7 +104,7 @@ fn trace_record(
     let r = records.at(i);
     match Kind::try_from(r.kind) {
         Ok(Kind::Read) => trace_read(sources, r, flags),
-        Ok(Kind::Write) => trace_write(ends, r, sources),
+        Ok(Kind::Write) if may_feed(r) => trace_write(ends, r, sources),
         _ => {}
     }
 }

@@ -15,7 +15,7 @@ use Rattle.lists.specs.Tables.{coded}
 use Rattle.lists.proofs.BoolLaws.{by_cases}
 use Rattle.model.specs.History.{Amount}
 use Rattle.model.specs.Undo.{is_source, surviving, undone}
-use Rattle.journal.specs.Inputs.{Inputs, inputs_of}
+use Rattle.journal.specs.Inputs.{Inputs}
 use Rattle.journal.specs.declared.Reason.{Reason}
 use Rattle.journal.specs.Reasons.{number_of, place_of}
 use Rattle.journal.specs.Journal.{count, items, history, whole}
@@ -46,8 +46,8 @@ pub record Examined (d : Inputs) (n m : ℕ) (ends : List ℕ) : Type 0 where
   pub ended : ends ≡ ends_of (history d.journal n)
   pub passed : decide (examined_order d) ≡ none
 
-pub examined : (p : Passed) (t : List Amount) → decide (examined_order (inputs_of p.journal.bytes.now t)) ≡ none → Examined (inputs_of p.journal.bytes.now t) p.journal.records p.journal.items (codes p.ends)
-examined p t h = record { ready = p.ready; counted = p.journal.opened.counted; keys = p.journal.opened.keys; ended = p.ended; passed = h }
+pub examined : (d : Inputs) (p : Passed) → d.journal ≡ p.journal.bytes.now → decide (examined_order d) ≡ none → Examined d p.journal.records p.journal.items (codes p.ends)
+examined d p e h = record { ready = rw e p.ready; counted = rw e p.journal.opened.counted; keys = rw e p.journal.opened.keys; ended = rw e p.ended; passed = h }
 
 module _ (d : Inputs) (bad status out : List ℕ) where
   -- a refusal writes nothing

@@ -23,6 +23,7 @@ use Rattle.journal.specs.Refusals.{RecordCounts, malformed, wrong_next, unsettle
 use Rattle.journal.specs.Orders.{decide, record_order, start_order, check_order, chain_order, append_order, undo_order}
 use Rattle.journal.specs.Copy.{linked_to, copy}
 use Rattle.journal.specs.Calls.{Answer, refused, accepted, UndoTotals, UndoResult, start, check, chain_of, chain, new_record, append, undo, opening_table}
+use Rattle.days.specs.Days.{status_buffer, blank}
 use Rattle.days.specs.Journals.{copy_of3}
 use Rattle.demands.specs.Days.{accepts, records_of, PassFinished, Day}
 use Rattle.demands.specs.ReadsFrom.{Highest}
@@ -39,13 +40,6 @@ use Rattle.demands.proofs.Refusing.{answered-all, exactly, only_under, lowest-re
 use Rattle.demands.proofs.Behind.{behind}
 
 -- ---- the days
-
--- marks and paper as lent
-abbrev status_buffer : List ℕ
-status_buffer = replicate 1025 7
-
-abbrev blank : ℕ → List ℕ
-blank n = replicate n 99
 
 -- kept, taken back, dropped, bytes of the copy
 abbrev totals_with : ℕ → ℕ → ℕ → ℕ → UndoTotals

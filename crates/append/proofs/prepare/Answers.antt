@@ -10,14 +10,14 @@ use Rattle.append.proofs.prepare.Goals as goal
 pub returns-in_err-header : goal.returns-in_err-header
 returns-in_err-header c =
     let p = err_from_is_err_and c.from_residual.result c.from_residual.ensures.1 in
-    rw (p.1, p.2) (plan-refused _ _ (record_counts_of c.args.counts) c.args.r _ (head_refused _ _ _ c.in_err-header.ensures.answer))
+    rw (p.1, p.2) (plan-refused _ (record_counts_of c.args.counts) c.args.r _ (head_refused _ _ c.in_err-header.ensures.answer))
 
 pub returns-in_err-verify_opened : goal.returns-in_err-verify_opened
 returns-in_err-verify_opened c =
     let p = err_from_is_err_and c.from_residual-in_err-verify_opened.result c.from_residual-in_err-verify_opened.ensures.1 in
     let h = c.in_ok-header.ensures in
     let e = rw (c.new-pass.ensures.journal, h.bytes) at c.in_err-verify_opened.ensures.answer in
-    rw (p.1, p.2) (plan-refused _ _ (record_counts_of c.args.counts) c.args.r _ (verified_decides _ _ _ _ h.answer e))
+    rw (p.1, p.2) (plan-refused _ (record_counts_of c.args.counts) c.args.r _ (verified_decides _ _ _ h.answer e))
 
 pub judge_entry-requires : goal.judge_entry-requires
 judge_entry-requires c =
@@ -33,7 +33,7 @@ returns-in_err-judge_entry c =
     let v = c.in_ok-verify_opened.ensures in
     let e = rw (j, h.bytes) at v.answer in
     let f = rw (c.seen.ensures.journal, v.journal, j, h.bytes) at c.in_err-judge_entry.ensures in
-    rw (p.1, p.2) (plan-barred _ _ _ _ (verified_decides _ _ _ _ h.answer e) _ f)
+    rw (p.1, p.2) (plan-barred _ _ _ (verified_decides _ _ _ h.answer e) _ f)
 
 pub returns : goal.returns
 returns c =
@@ -43,4 +43,4 @@ returns c =
     let e = rw (j, h.bytes) at v.answer in
     let n = opened-count _ _ _ _ v.all j h.bytes in
     let f = rw (c.seen.ensures.journal, v.journal, j, h.bytes) at c.in_ok-judge_entry.ensures in
-    plan-entered _ _ _ _ (verified_decides _ _ _ _ h.answer e) _ n f
+    plan-entered _ _ _ (verified_decides _ _ _ h.answer e) _ n f

@@ -10,14 +10,14 @@ use Rattle.examine.proofs.examine_unsettled.Goals as goal
 pub returns-in_err-header-clause-answer : goal.returns-in_err-header-clause-answer
 returns-in_err-header-clause-answer c =
     let p = err_from_is_err_and c.from_residual.result c.from_residual.ensures.1 in
-    rw (p.1, p.2) (refused_by _ _ _ (unsettled_head _ _ _ c.in_err-header.ensures.answer))
+    rw (p.1, p.2) (refused_by _ _ _ (unsettled_head _ _ c.in_err-header.ensures.answer))
 
 pub returns-in_err-verify_records-clause-answer : goal.returns-in_err-verify_records-clause-answer
 returns-in_err-verify_records-clause-answer c =
     let p = err_from_is_err_and c.from_residual-in_err-verify_records.result c.from_residual-in_err-verify_records.ensures.1 in
     let h = c.in_ok-header.ensures in
     let e = rw (c.new-pass.ensures.journal, h.bytes) at c.in_err-verify_records.ensures.answer in
-    rw (p.1, p.2) (refused_by _ _ _ (unsettled_early _ _ _ h.answer _ e))
+    rw (p.1, p.2) (refused_by _ _ _ (unsettled_early _ _ h.answer _ e))
 
 pub returns-clause-answer : goal.returns-clause-answer
 returns-clause-answer c =
@@ -27,5 +27,5 @@ returns-clause-answer c =
     let e = rw (j, h.bytes) at v.answer in
     let n = opened-count _ _ _ _ v.all j h.bytes in
     let a = rw (v.journal, j, h.bytes) at c.closed.ensures.answer in
-    sized_by _ _ c.closed.result _ (unsettled_late _ _ _ h.answer _ _ e n a) c.closed.ensures.journal
+    sized_by _ _ c.closed.result _ (unsettled_late _ _ h.answer _ _ e n a) c.closed.ensures.journal
     (ap size (v.journal ∙ j) ∙ (accepted-only _ _ _ h.answer).1)

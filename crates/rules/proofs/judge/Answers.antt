@@ -1,7 +1,6 @@
 use borrow.Author.Rules.{rules}
 use Rattle.std.proofs.lemmas.Result.{err_from_is_err_and}
-use Rattle.fields.proofs.Fields.{formed-item-write}
-use native.Mathlib.Omega.{arith}
+use Rattle.arrays.proofs.ArraysLaws.{item-write}
 use mathlib.Core.Path.{◌≡◌}
 use Rattle.rules.proofs.RuleLaws.{access_refused, stands-write, differs-write, stands-other}
 use Rattle.rules.proofs.judge.Goals as goal
@@ -13,8 +12,7 @@ returns-in_err-judge_access c =
 
 pub matches_standing-requires : goal.matches_standing-requires
 matches_standing-requires c =
-    let x = formed-item-write _ c.args.r c.requires (search rules) in
-    omega (arith, c.args.seen.now.touches.writers.ready.items)
+    item-write _ _ c.args.r c.args.seen.now.touches.writers.ready c.requires (search rules)
 
 pub returns-then-matches_standing : goal.returns-then-matches_standing
 returns-then-matches_standing c = let k : c.args.r.kind ≡ 2 = search rules in search (stands-write, rules)

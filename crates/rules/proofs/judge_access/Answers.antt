@@ -1,7 +1,6 @@
 use mathlib.Core.Path.{◌≡◌}
 use borrow.Author.Rules.{rules}
-use native.Mathlib.Omega.{arith}
-use Rattle.fields.proofs.Fields.{formed-item-read, formed-item-write}
+use Rattle.arrays.proofs.ArraysLaws.{item-read, item-write}
 use Rattle.rules.proofs.RuleLaws.{tx-low, access-terminated, access_end, of-read, of-write}
 use Rattle.rules.proofs.judge_access.Goals as goal
 
@@ -13,13 +12,11 @@ returns-in-Committed c = search (access-terminated, rules)
 
 pub judge_read-requires : goal.judge_read-requires
 judge_read-requires c =
-    let x = formed-item-read _ c.args.r c.requires (search rules) in
-    (omega (arith, c.args.touches.now.writers.ready.items), search tx-low, search rules)
+    (item-read _ _ c.args.r c.args.touches.now.writers.ready c.requires (search rules), search tx-low, search rules)
 
 pub judge_write-requires : goal.judge_write-requires
 judge_write-requires c =
-    let x = formed-item-write _ c.args.r c.requires (search rules) in
-    (omega (arith, c.args.touches.now.writers.ready.items), search tx-low, search rules)
+    (item-write _ _ c.args.r c.args.touches.now.writers.ready c.requires (search rules), search tx-low, search rules)
 
 pub returns-in-Ok-Read : goal.returns-in-Ok-Read
 returns-in-Ok-Read c = search (of-read, rules)

@@ -1,5 +1,4 @@
-use mathlib.Core.Path.{refl, ◌∙◌, ap}
-use Prim.Native.Nat.{◌+◌}
+use mathlib.Core.Path.{refl}
 use Rattle.std.proofs.lemmas.Result.{err_from_is_err_and}
 use Rattle.scan.proofs.Pass.{all_left, record-refused, record-passed, none_left, ready-more, not_blind-more, next-formed}
 use native.Mathlib.Omega.{arith}

@@ -9,14 +9,14 @@ pub returns-in_err-header : goal.returns-in_err-header
 returns-in_err-header c =
     let p = err_from_is_err_and c.from_residual.result c.from_residual.ensures.1 in
     let e = c.in_err-header.ensures.answer in
-    rw (p.1, p.2) (check_refused _ _ _ (head_refused _ _ _ e))
+    rw (p.1, p.2) (check_refused _ _ (head_refused _ _ e))
 
 pub returns-in_err-verify_opened : goal.returns-in_err-verify_opened
 returns-in_err-verify_opened c =
     let p = err_from_is_err_and c.from_residual-in_err-verify_opened.result c.from_residual-in_err-verify_opened.ensures.1 in
     let h = c.in_ok-header.ensures in
     let e = rw (c.new-pass.ensures.journal, h.bytes) at c.in_err-verify_opened.ensures.answer in
-    rw (p.1, p.2) (check_refused _ _ _ (verified_decides _ _ _ _ h.answer e))
+    rw (p.1, p.2) (check_refused _ _ (verified_decides _ _ _ h.answer e))
 
 pub returns : goal.returns
 returns c =
@@ -27,4 +27,4 @@ returns c =
     let n = opened-count _ _ _ _ v.all j h.bytes in
     let p = c.verify_opened.new.pass in
     let a = c.active_count.ensures ∙ active-number p.journal.bytes.now p.n p.kept.ends p.kept.firsts p.state.ended p.state.begun in
-    check_accepted _ _ _ _ (verified_decides _ _ _ _ h.answer e) n (rw (v.journal, j, h.bytes) at a)
+    check_accepted _ _ _ (verified_decides _ _ _ h.answer e) n (rw (v.journal, j, h.bytes) at a)
