@@ -91,7 +91,7 @@ module _ (c l : List ℕ) (h : length c ≤ length l) (k : ℕ) where
     left : k < length c
     left = let n = ap length e in omega (arith, length-drop k c)
 
-    pub written-in : k < length l
+    written-in : k < length l
     written-in = let f = left in omega arith
 
     pub written-left : drop (k + 1) c ≡ r

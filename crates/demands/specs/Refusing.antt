@@ -29,6 +29,7 @@ pub data Answers {A : Type 0} (numbers : List ℕ) : Answer A → Type 0 where
 abbrev pub start_numbers : List ℕ
 start_numbers = 1 ∷ 2 ∷ []
 
+-- 4 to 9, of a journal's records
 abbrev pub record_numbers : List ℕ
 record_numbers = 4 ∷ 5 ∷ 6 ∷ 7 ∷ 8 ∷ 9 ∷ []
 

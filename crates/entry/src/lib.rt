@@ -18,7 +18,7 @@ use format::{Lsn, MAX_RECORDS, RECORD_BYTES, Record};
 use journal::Reason;
 use rules::judge_access;
 
-// Rule 15: the counts agree with the journal.
+// Rule 15: the counts agree with the journal. No working array is looked at here or in 14, so journal and record count stand alone.
 #[tactic(auto, unfolding(journal::specs::Refusals::wrong_counts, journal::specs::Journal::whole))]
 fn agrees(journal: &[u8], n: u32, counts: Counts) -> bool
     requires { Ready journal.now n × (n ≡ count journal.now) }
@@ -56,7 +56,7 @@ fn judge_new(touches: &Touches, keys: u32, r: Record) -> Result<(), Reason>
     }
 }
 
-// Rule 15, then the new record.
+// Rule 15, then the new record. `keys` is the item count: the caller has it, and a view of the arrays does not.
 #[tactic(auto, using(crate::proofs::Judging::entry_parts))]
 pub fn judge_entry(touches: &Touches, keys: u32, counts: Counts, r: Record) -> Result<(), Reason>
     requires { (touches.now.writers.n ≡ count touches.now.writers.journal.now)

@@ -1,4 +1,5 @@
--- Laws of what feeds a read. Only they look into `is_source` and `reads_from`.
+-- Laws of what feeds a read. Only they look into `is_source`; into `reads_from` also what says document 01's rule in words (demands,
+-- ReadsFrom), and the days that are computed.
 -- Assumes nothing.
 use mathlib.Core.Path.{◌≡◌, refl}
 use mathlib.Core.Bool.{Bool, true, false, cond, ◌&&◌}

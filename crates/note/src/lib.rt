@@ -1,4 +1,4 @@
-// A record that passed, entered in the pass.
+// The next record, entered in the working arrays.
 #![tactic(auto)]
 
 ghost use Rattle.std.specs.Prelude.{◌≡◌, false, cond, ◌+◌, ◌<◌, length, get_or, set};
@@ -49,7 +49,8 @@ fn note_write(writes: &mut [u32], bases: &mut [u32], reads: &mut [u32], x: Key, 
     }
 }
 
-// Record n + 1, after n records that passed; it is not malformed.
+// Record n + 1, after n records that passed; it is not malformed. Journal and n stand beside the arrays: together they would be a `Pass`,
+// which knows that record n + 1 passes too, once it is entered.
 pub fn note(journal: &[u8], n: u32, r: Record, kept: &mut Kept)
     requires { Ready journal.now n × (n < max_records) × Holds journal.now n kept.old
         × (malformed (items journal.now) r ≡ false) × (r ≡ record_at journal.now (n + 1)) }

@@ -56,7 +56,7 @@ module _ (d : Inputs) (bad status out : List ℕ) {u : UndoResult} (kept : UndoP
   opened = ap decide (sym (open-agree b u.out agree)) ∙ clear-decide (open-clear b checks.sound.long checks.sound.head checks.sound.full)
 
   -- .. so what is found in the paper is the copy's net change
-  pub found-sum : {n : ℤ} → n ≡ net_in u.out → n ≡ sum_left u c
+  found-sum : {n : ℤ} → n ≡ net_in u.out → n ≡ sum_left u c
   found-sum f = f ∙ net_in-opened u.out opened ∙ ap net_change (sym (whole_agree b u.out agree))
 
 -- the digits that are printed, where the call is accepted

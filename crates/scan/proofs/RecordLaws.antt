@@ -34,7 +34,7 @@ module _ (b : List ℕ) (n m : ℕ) (r : Record) (h : Bool) (k : Ready b n) (e :
       let f : malformed (items b) (record_at b (n + 1)) ≡ true = not-false _ (rw (← j, ← e) (sym g ∙ z)) in rw (record-parts b n, f)
 
   module _ (z : h ≡ true) where
-    pub record-formed : malformed (items b) r ≡ false
+    record-formed : malformed (items b) r ≡ false
     record-formed = not-true _ (rw (← j) (sym g ∙ z))
 
     module _ (low c : ℕ) (a : low ≡ lowest_broken b 1 c) (i : n < c) where
