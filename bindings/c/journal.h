@@ -27,8 +27,8 @@
  * Terms. An end is a commit or an abort. A transaction is active from its first record to its end. At an abort each item that the
  * transaction wrote returns to the before of its first write of it. The standing amount of an item follows all records so far, aborts
  * included. Its opening amount is the before of its first write, or the table's amount if it has none. A read by T of an item is fed by
- * the highest earlier write of that item whose transaction is T or has already committed, else by the opening amount; T reads from that
- * write's transaction.
+ * the highest earlier write of that item that changed the amount (its after is not its before) and whose transaction is T or has
+ * already committed, else by the opening amount; T reads from that write's transaction.
  *
  * Every call. The result is the refusal's number, one of enum journal_reason, or 0 if the call is accepted. `answer` is written in
  * both cases: with the refusal's place, or with what the call answers. A refused call writes to nothing else that it was lent. Any

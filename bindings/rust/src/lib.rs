@@ -348,7 +348,8 @@ pub fn chain(journal: &[u8], transaction: Transaction, lsns: &mut [Lsn]) -> Resu
 }
 
 /// Undoes the listed transactions and every committed transaction that read from them, directly or
-/// through others ("take-back").
+/// through others ("take-back"). A read of an item reads from the highest earlier write that
+/// changed the amount, by its own transaction or one already committed.
 ///
 /// Where accepted, `table` has the amounts that the surviving transactions leave, `status` has a byte
 /// of [`status`](mod@status) per transaction number, and the front of `out` is the copy: the journal

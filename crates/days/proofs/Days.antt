@@ -10,7 +10,7 @@ use Rattle.journal.specs.Inputs.{inputs_of}
 use Rattle.journal.specs.Calls.{start, append, check, chain, count_records, undo}
 use Rattle.days.proofs.Computed.{computed}
 use Rattle.days.proofs.Tests.{starts, appends, checks, chains, countings, undos}
-use Rattle.days.specs.Days.{Row, starting, appending, checking, chaining, counting, undoing, Holds, AllHold, done, ◌&◌, status_buffer, blank, example_left, days, SecondRecord, RepeatedName}
+use Rattle.days.specs.Days.{Row, starting, appending, checking, chaining, counting, undoing, Holds, AllHold, done, ◌&◌, status_buffer, blank, example_left, days, OwnRewrite, SecondRecord, RepeatedName}
 
 -- the call gives what the row says
 abbrev passes : Row → Bool
@@ -50,6 +50,10 @@ none-failing k (r ∷ rs) e =
 pub days-hold : AllHold days
 unfolding computed
 days-hold = none-failing 1 days refl
+
+pub own-rewrite : OwnRewrite
+unfolding computed
+own-rewrite = record { ahead = refl; behind = refl; other = refl; own = refl; back = refl }
 
 pub second-record : SecondRecord
 unfolding computed

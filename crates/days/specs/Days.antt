@@ -1,22 +1,27 @@
--- The worked days: a table of calls, each with its inputs, the answer that document 01 asks for and every loan afterwards, all
--- written by hand from the document. `Holds` compares them with the definitions of the calls.
--- Document 01, "Days to try", "The calls beside it" and "Reasons for handing it back". Assumes nothing.
+-- The worked days: a table of calls, each with its inputs, the answer that the documents ask for and every loan afterwards, all
+-- written by hand from them. `Holds` compares them with the definitions of the calls. Document 01, "Days to try", "The calls beside
+-- it" and "Reasons for handing it back"; document 02, request 3. Assumes nothing.
 use Rattle.std.specs.Prelude.{◌≡◌, ℕ, pos, negsuc, take, drop, replicate, set}
 use mathlib.Core.List.{List, [], ◌∷◌, ◌++◌, flatten}
+use Rattle.std.proofs.Math.Option.{some}
 use Rattle.format.specs.Layout.{record_at, bytes_of}
-use Rattle.model.specs.History.{Amount}
+use Rattle.model.specs.History.{Amount, write}
+use Rattle.model.specs.Undo.{is_source, reads_from}
 use Rattle.journal.specs.Inputs.{inputs_of}
+use Rattle.journal.specs.Journal.{history}
 use Rattle.journal.specs.Refusals.{RecordCounts}
 use Rattle.journal.specs.Calls.{Answer, refused, accepted, StartResult, start, check, ChainResult, chain, AppendResult, append}
 use Rattle.journal.specs.Calls.{count_records, UndoTotals, UndoResult, undo}
-use Rattle.example.specs.Records.{head_bytes, read_bytes, write_bytes, commit_bytes, abort_bytes, p0, p1, p2, p320, p500, p1000, p1180}
-use Rattle.example.specs.Records.{minus1, minus2}
+use Rattle.example.specs.Records.{head_bytes, read_bytes, write_bytes, commit_bytes, abort_bytes, p0, p1, p2, p320, p500, p900, p1000}
+use Rattle.example.specs.Records.{p1180, minus1, minus2, lowest, highest}
 use Rattle.example.specs.Example.{record2, example, example_table}
 use Rattle.days.specs.Journals.{example_with, copy_of3, copy_of12, ten, late_read, late_read_table, aborted_write, aborted_write_table}
 use Rattle.days.specs.Journals.{aborted_between, successive, after_read, after_write, after_commit, after_writes, after_abort}
-use Rattle.days.specs.Journals.{first_table, written_table, rewritten, extremes, transaction1024, transaction1025, same_value}
+use Rattle.days.specs.Journals.{first_table, written_table, written_after_abort, extremes, transaction1024, transaction1025}
 use Rattle.days.specs.Journals.{read_after_end, ended_twice, conflicting_read, conflicting_write, conflicting_blind, blind_write}
 use Rattle.days.specs.Journals.{blind_other_item, blind_other_reader, wrong_before}
+use Rattle.days.specs.Journals.{write_then_read, rewrite_read, rewrite_read_table, rewrite_between, two_writes, own_rewrite}
+use Rattle.days.specs.Journals.{kept_rewrite, written_back}
 
 -- ---- rows
 
@@ -210,7 +215,7 @@ check_days =
     -- the before of an item's first write is free
     ∷ checking (example_with 9 (write_bytes 3 11 2 p2 p1180)) example_table (accepted 0)
     -- after a rollback the item stands at its amount of before
-    ∷ checking (rewritten p500) (pos 900 ∷ []) (accepted 0)
+    ∷ checking (written_after_abort p500) (pos 900 ∷ []) (accepted 0)
     -- an item that no record writes may have any amount
     ∷ checking late_read (pos 320 ∷ negsuc 4 ∷ pos 900 ∷ []) (accepted 0)
     -- transaction 1,024 passes; the lowest and the highest amount pass
@@ -283,7 +288,7 @@ check_days =
     -- 9: record 8 with before 2, where item 1 stands at 1; a second write; a write after a rollback
     ∷ check_refused (set example 172 2) example_table 9 8
     ∷ check_refused wrong_before (pos 900 ∷ []) 9 3
-    ∷ check_refused (rewritten p320) (pos 900 ∷ []) 9 5
+    ∷ check_refused (written_after_abort p320) (pos 900 ∷ []) 9 5
     -- 10: the table's amount of a written item is another; the lowest such item; written by a rolled-back, by an open transaction
     ∷ check_refused example (pos 320 ∷ pos 0 ∷ pos 1181 ∷ []) 10 2
     ∷ check_refused example (pos 321 ∷ pos 1 ∷ pos 1180 ∷ []) 10 0
@@ -481,11 +486,11 @@ undo_days =
       status = 0 ∷ 1 ∷ 2 ∷ 2 ∷ replicate 1021 0;
       out = flatten (head_bytes 3 1 ∷ read_bytes 1 2 0 ∷ write_bytes 1 3 0 p500 p320 ∷ commit_bytes 1 0 ∷ []);
     })
-    -- by the same write and not by equal value: 1 wrote the amount that stood there, 2 read it
-    ∷ undoing same_value (pos 500 ∷ []) (1 ∷ []) status_buffer (blank 20) (record {
-      answer = accepted_totals 0 2 0 20;
+    -- by the same write and not by equal value: 2, which goes with 1, wrote the opening amount again, and 3 read it
+    ∷ undoing written_back (pos 500 ∷ []) (1 ∷ []) status_buffer (blank 20) (record {
+      answer = accepted_totals 0 3 0 20;
       table = pos 500 ∷ [];
-      status = 0 ∷ 2 ∷ 2 ∷ replicate 1022 0;
+      status = 0 ∷ 2 ∷ 2 ∷ 2 ∷ replicate 1021 0;
       out = head_bytes 0 1;
     })
     -- a commit alone, taken back; sale 1,024 has the last mark
@@ -503,6 +508,91 @@ undo_days =
       out = head_bytes 0 1;
     })
     ∷ []
+
+-- ---- take-back on days with rewrites (document 02, request 3)
+
+-- 1 and 2 are taken back and nothing is left; one item, at this amount
+abbrev pub both_undone : Amount → UndoResult
+both_undone amount =
+    record {
+      answer = accepted_totals 0 2 0 20;
+      table = amount ∷ [];
+      status = 0 ∷ 2 ∷ 2 ∷ replicate 1022 0;
+      out = head_bytes 0 1;
+    }
+
+-- 1 is taken back, and 2, which read the item, is kept
+abbrev pub reader_kept : Amount → UndoResult
+reader_kept amount =
+    record {
+      answer = accepted_totals 1 1 0 60;
+      table = amount ∷ [];
+      status = 0 ∷ 2 ∷ 1 ∷ replicate 1022 0;
+      out = flatten (head_bytes 2 1 ∷ read_bytes 2 2 0 ∷ commit_bytes 2 0 ∷ []);
+    }
+
+abbrev pub rewrite_days : List Row
+rewrite_days =
+    -- the request's case: a bad sale rewrites item 2 at 1000, a later sale reads it and is kept
+    undoing rewrite_read rewrite_read_table (1 ∷ []) status_buffer (blank 80) (record {
+      answer = accepted_totals 1 1 0 80;
+      table = rewrite_read_table;
+      status = 0 ∷ 2 ∷ 1 ∷ replicate 1022 0;
+      out = flatten (head_bytes 3 3 ∷ read_bytes 2 2 2 ∷ write_bytes 2 3 2 p1000 p1180 ∷ commit_bytes 2 0 ∷ []);
+    })
+    -- a write whose after is its before feeds nothing, at 500 and at the lowest amount; a penny more, a penny less, and from the
+    -- highest amount to the lowest feed
+    ∷ undoing (write_then_read p500 p500) (pos 500 ∷ []) (1 ∷ []) status_buffer (blank 60) (reader_kept (pos 500))
+    ∷ undoing (write_then_read lowest lowest) (negsuc 2147483647 ∷ []) (1 ∷ []) status_buffer (blank 60)
+    (reader_kept (negsuc 2147483647))
+    ∷ undoing (write_then_read p0 p1) (pos 1 ∷ []) (1 ∷ []) status_buffer (blank 20) (both_undone (pos 0))
+    ∷ undoing (write_then_read p0 minus1) (negsuc 0 ∷ []) (1 ∷ []) status_buffer (blank 20) (both_undone (pos 0))
+    ∷ undoing (write_then_read highest lowest) (negsuc 2147483647 ∷ []) (1 ∷ []) status_buffer (blank 20)
+    (both_undone (pos 2147483647))
+    -- a rewrite, by the same sale or by another, stands behind a bad write that changed the amount, and that one feeds
+    ∷ undoing (two_writes p320 p320) (pos 320 ∷ []) (1 ∷ []) status_buffer (blank 20) (both_undone (pos 500))
+    ∷ undoing rewrite_between (pos 320 ∷ []) (1 ∷ []) status_buffer (blank 20) (record {
+      answer = accepted_totals 0 3 0 20;
+      table = pos 500 ∷ [];
+      status = 0 ∷ 2 ∷ 2 ∷ 2 ∷ replicate 1021 0;
+      out = head_bytes 0 1;
+    })
+    -- the sale that rewrites goes alone: 3 reads what 1 wrote
+    ∷ undoing rewrite_between (pos 320 ∷ []) (2 ∷ []) status_buffer (blank 120) (record {
+      answer = accepted_totals 2 1 0 120;
+      table = pos 320 ∷ [];
+      status = 0 ∷ 1 ∷ 2 ∷ 1 ∷ replicate 1021 0;
+      out =
+          flatten
+          (head_bytes 5 1
+          ∷ read_bytes 1 2 0
+          ∷ write_bytes 1 3 0 p500 p320
+          ∷ commit_bytes 1 0
+          ∷ read_bytes 3 5 0
+          ∷ commit_bytes 3 0
+          ∷ []);
+    })
+    -- 500 to 900 and back to 500 in one sale draws its reader in
+    ∷ undoing (two_writes p900 p500) (pos 500 ∷ []) (1 ∷ []) status_buffer (blank 20) (both_undone (pos 500))
+    -- an own rewrite before an own read; what feeds it: `OwnRewrite`
+    ∷ undoing own_rewrite (pos 320 ∷ []) (1 ∷ []) status_buffer (blank 20) (both_undone (pos 500))
+    -- the copy has a kept sale's rewrite
+    ∷ undoing kept_rewrite (pos 320 ∷ pos 1000 ∷ []) (1 ∷ []) status_buffer (blank 80) (record {
+      answer = accepted_totals 1 1 0 80;
+      table = pos 500 ∷ pos 1000 ∷ [];
+      status = 0 ∷ 2 ∷ 1 ∷ replicate 1022 0;
+      out = flatten (head_bytes 3 2 ∷ read_bytes 2 2 1 ∷ write_bytes 2 3 1 p1000 p1000 ∷ commit_bytes 2 0 ∷ []);
+    })
+    ∷ []
+
+-- what feeds reads on three of these days: the highest write by 1 that changed the amount, and no rewrite. `own` is a read that 1
+-- itself would make behind its rewrite; `back` is behind 500 to 900 and back to 500, and the second write feeds
+pub record OwnRewrite : Type 0 where
+  pub ahead : reads_from is_source (history own_rewrite 3) 2 0 ≡ some (write 2 1 0 (pos 500) (pos 320))
+  pub behind : reads_from is_source (history own_rewrite 5) 2 0 ≡ some (write 2 1 0 (pos 500) (pos 320))
+  pub other : reads_from is_source (history (two_writes p320 p320) 4) 2 0 ≡ some (write 2 1 0 (pos 500) (pos 320))
+  pub own : reads_from is_source (history (two_writes p320 p320) 3) 1 0 ≡ some (write 2 1 0 (pos 500) (pos 320))
+  pub back : reads_from is_source (history (two_writes p900 p500) 4) 2 0 ≡ some (write 3 1 0 (pos 900) (pos 500))
 
 -- the other refusals of take-back
 abbrev pub undo_refused_days : List Row
@@ -532,7 +622,7 @@ undo_refused_days =
 -- ---- the table
 
 abbrev pub days : List Row
-days = start_days ++ (append_days ++ (check_days ++ (chain_days ++ (count_days ++ (undo_days ++ undo_refused_days)))))
+days = start_days ++ (append_days ++ (check_days ++ (chain_days ++ (count_days ++ (undo_days ++ (rewrite_days ++ undo_refused_days))))))
 
 -- record 2 of the example: the twenty bytes that document 01 gives, at their place in the journal, what they mean, and written
 -- again

@@ -1,5 +1,5 @@
 -- The journals of the worked days, written out in bytes by hand: the example's variants and copies, and the small journals of the
--- other days. Document 01, "Days to try". Assumes nothing.
+-- other days. Document 01, "Days to try"; document 02, request 3. Assumes nothing.
 use mathlib.Core.List.{List, [], ◌∷◌, ◌++◌, flatten}
 use Rattle.std.specs.Prelude.{ℕ, pos, take, set}
 use Rattle.model.specs.History.{Amount}
@@ -137,8 +137,8 @@ written_table = pos 320 ∷ pos 0 ∷ pos 1000 ∷ []
 -- ---- small journals, most of one item
 
 -- transaction 1 writes and rolls back; 2 writes, with this before
-abbrev pub rewritten : List ℕ → List ℕ
-rewritten before =
+abbrev pub written_after_abort : List ℕ → List ℕ
+written_after_abort before =
     flatten (head_bytes 6 1
     ∷ read_bytes 1 2 0
     ∷ write_bytes 1 3 0 p500 p320
@@ -162,12 +162,6 @@ transaction1024 = head_bytes 1 1 ++ set (commit_bytes 0x00 0) 3 0x04
 
 abbrev pub transaction1025 : List ℕ
 transaction1025 = head_bytes 1 1 ++ set (commit_bytes 0x01 0) 3 0x04
-
--- transaction 1 writes the amount that stood there, 2 reads it
-abbrev pub same_value : List ℕ
-same_value =
-    flatten (head_bytes 5 1 ∷ read_bytes 1 2 0 ∷ write_bytes 1 3 0 p500 p500 ∷ commit_bytes 1 0 ∷ read_bytes 2 5 0 ∷ commit_bytes 2 0
-    ∷ [])
 
 -- a read after the transaction's commit; two commits of it
 abbrev pub read_after_end : List ℕ
@@ -200,3 +194,91 @@ blind_other_reader = flatten (head_bytes 4 1 ∷ read_bytes 1 2 0 ∷ commit_byt
 abbrev pub wrong_before : List ℕ
 wrong_before =
     flatten (head_bytes 4 1 ∷ read_bytes 1 2 0 ∷ write_bytes 1 3 0 p500 p320 ∷ write_bytes 1 4 0 p500 p900 ∷ commit_bytes 1 0 ∷ [])
+
+-- ---- rewrites: writes of the amount that stands there (document 02, request 3)
+
+-- transaction 1 writes the item, from this amount to that one; 2 reads it
+abbrev pub write_then_read : List ℕ → List ℕ → List ℕ
+write_then_read before after =
+    flatten (head_bytes 5 1 ∷ read_bytes 1 2 0 ∷ write_bytes 1 3 0 before after ∷ commit_bytes 1 0 ∷ read_bytes 2 5 0 ∷ commit_bytes 2 0
+    ∷ [])
+
+-- the request's case: transaction 1 rewrites item 2 at 1000; 2 reads it and writes 1180
+abbrev pub rewrite_read : List ℕ
+rewrite_read =
+    flatten (head_bytes 6 3
+    ∷ read_bytes 1 2 2
+    ∷ write_bytes 1 3 2 p1000 p1000
+    ∷ commit_bytes 1 0
+    ∷ read_bytes 2 5 2
+    ∷ write_bytes 2 6 2 p1000 p1180
+    ∷ commit_bytes 2 0
+    ∷ [])
+
+abbrev pub rewrite_read_table : List Amount
+rewrite_read_table = pos 500 ∷ pos 0 ∷ pos 1180 ∷ []
+
+-- transaction 1 writes the item, 2 rewrites it, 3 reads it
+abbrev pub rewrite_between : List ℕ
+rewrite_between =
+    flatten (head_bytes 8 1
+    ∷ read_bytes 1 2 0
+    ∷ write_bytes 1 3 0 p500 p320
+    ∷ commit_bytes 1 0
+    ∷ read_bytes 2 5 0
+    ∷ write_bytes 2 6 0 p320 p320
+    ∷ commit_bytes 2 0
+    ∷ read_bytes 3 8 0
+    ∷ commit_bytes 3 0
+    ∷ [])
+
+-- transaction 1 writes the item twice, to this amount and from it to that one; 2 reads it
+abbrev pub two_writes : List ℕ → List ℕ → List ℕ
+two_writes between after =
+    flatten (head_bytes 6 1
+    ∷ read_bytes 1 2 0
+    ∷ write_bytes 1 3 0 p500 between
+    ∷ write_bytes 1 4 0 between after
+    ∷ commit_bytes 1 0
+    ∷ read_bytes 2 6 0
+    ∷ commit_bytes 2 0
+    ∷ [])
+
+-- transaction 1 writes the item; 2 reads it, rewrites it and reads it again
+abbrev pub own_rewrite : List ℕ
+own_rewrite =
+    flatten (head_bytes 7 1
+    ∷ read_bytes 1 2 0
+    ∷ write_bytes 1 3 0 p500 p320
+    ∷ commit_bytes 1 0
+    ∷ read_bytes 2 5 0
+    ∷ write_bytes 2 6 0 p320 p320
+    ∷ read_bytes 2 7 0
+    ∷ commit_bytes 2 0
+    ∷ [])
+
+-- transaction 1 writes item 0; 2 rewrites item 1
+abbrev pub kept_rewrite : List ℕ
+kept_rewrite =
+    flatten (head_bytes 6 2
+    ∷ read_bytes 1 2 0
+    ∷ write_bytes 1 3 0 p500 p320
+    ∷ commit_bytes 1 0
+    ∷ read_bytes 2 5 1
+    ∷ write_bytes 2 6 1 p1000 p1000
+    ∷ commit_bytes 2 0
+    ∷ [])
+
+-- no rewrite: transaction 1 writes the item, 500 to 900; 2 writes it back, 900 to 500; 3 reads it
+abbrev pub written_back : List ℕ
+written_back =
+    flatten (head_bytes 8 1
+    ∷ read_bytes 1 2 0
+    ∷ write_bytes 1 3 0 p500 p900
+    ∷ commit_bytes 1 0
+    ∷ read_bytes 2 5 0
+    ∷ write_bytes 2 6 0 p900 p500
+    ∷ commit_bytes 2 0
+    ∷ read_bytes 3 8 0
+    ∷ commit_bytes 3 0
+    ∷ [])

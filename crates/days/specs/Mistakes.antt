@@ -1,15 +1,20 @@
--- The slips that document 01 warns of, each as a rule of its own, and a day on which it goes wrong: the right result, the slip's
--- result and that they differ. Document 01, "Slips a good programmer would make". Assumes nothing.
-use Rattle.std.specs.Prelude.{◌≡◌, Bool, false, cond, not, ◌&&◌, ◌||◌, List, [], ◌∷◌, ℕ, pos, eqb, ltb, length, replicate}
-use Rattle.lists.specs.Search.{first, member}
+-- The slips of document 01, "Slips a good programmer would make", and those near request 3 of document 02, each as a rule of its
+-- own, and a day on which it goes wrong: the right result, the slip's result and that they differ. Assumes nothing.
+use Rattle.std.specs.Prelude.{◌≡◌, Bool, true, false, cond, not, ◌&&◌, ◌||◌, List, [], ◌∷◌, ℕ, pos, eqb, ltb, length, replicate}
+use Rattle.std.proofs.Math.Option.{some}
+use Rattle.lists.specs.Search.{first, keep, member}
 use Rattle.lists.specs.Tables.{tabulate}
-use Rattle.model.specs.History.{History, Amount, read, write, commit, abort, other, of_tx, tag_in, committed}
-use Rattle.model.specs.Undo.{is_source, reads_from, by_member, reached, committed_in, committed_out, undone, replayed}
+use Rattle.model.specs.History.{Op, History, Amount, same_amount, read, write, commit, abort, other, by_kind, unread, never}
+use Rattle.model.specs.History.{is_write, of_tx, tag_of, tag_in, committed}
+use Rattle.model.specs.Undo.{is_source, reads_from, by_member, reached, committed_in, committed_out, undone, surviving, survivors}
+use Rattle.model.specs.Undo.{renumber, repaired, replayed}
 use Rattle.journal.specs.Inputs.{inputs_of}
-use Rattle.journal.specs.Journal.{whole, amount_at}
+use Rattle.journal.specs.Journal.{history, whole, amount_at}
 use Rattle.journal.specs.Calls.{status_of, statuses, opening_at, UndoResult, undo}
+use Rattle.example.specs.Records.{p500, p900}
 use Rattle.example.specs.Example.{example, example_table}
-use Rattle.days.specs.Journals.{late_read, late_read_table, successive}
+use Rattle.days.specs.Journals.{late_read, late_read_table, successive, rewrite_read, rewrite_read_table, two_writes, kept_rewrite}
+use Rattle.days.specs.Journals.{written_back}
 use Rattle.days.specs.Days.{status_buffer, blank}
 
 -- what a take-back leaves: the table and the marks
@@ -134,3 +139,53 @@ AllLaterFails =
     Fails all_later (1 ∷ []) example example_table
     (record { table = pos 500 ∷ pos 0 ∷ pos 1180 ∷ []; status = 0 ∷ 2 ∷ 2 ∷ 1 ∷ replicate 1021 0 })
     (record { table = pos 500 ∷ pos 0 ∷ pos 1000 ∷ []; status = 0 ∷ 2 ∷ 2 ∷ 2 ∷ replicate 1021 0 })
+
+-- ---- request 3: which writes feed, by another test
+
+abbrev pub by_source : (Op → Bool) → UndoRule
+by_source φ bad b t = effect_of (undone φ bad (whole b)) (surviving φ bad (whole b)) b t
+
+-- every write feeds: the reader of a rewrite goes
+abbrev pub EveryWriteFails : Type 0
+EveryWriteFails =
+    Fails (by_source (λ w. true)) (1 ∷ []) rewrite_read rewrite_read_table
+    (record { table = rewrite_read_table; status = 0 ∷ 2 ∷ 1 ∷ replicate 1022 0 })
+    (record { table = pos 500 ∷ pos 0 ∷ pos 1000 ∷ []; status = 0 ∷ 2 ∷ 2 ∷ replicate 1022 0 })
+
+-- one that leaves another amount than the opening one feeds: 3, which read what 2 wrote back, stays
+abbrev pub against_opening : UndoRule
+against_opening bad b t =
+    by_source (by_kind unread (λ s x d a. not (same_amount a (opening_at (inputs_of b t) x))) never never) bad b t
+
+abbrev pub AgainstOpeningFails : Type 0
+AgainstOpeningFails =
+    Fails against_opening (2 ∷ []) written_back (pos 500 ∷ [])
+    (record { table = pos 900 ∷ []; status = 0 ∷ 1 ∷ 2 ∷ 2 ∷ replicate 1021 0 })
+    (record { table = pos 900 ∷ []; status = 0 ∷ 1 ∷ 2 ∷ 1 ∷ replicate 1021 0 })
+
+-- one that leaves another amount than the last committed one feeds
+abbrev pub against_committed : List ℕ → List Amount → Op → Bool
+against_committed b t w =
+    let p : History = history b (tag_of w) in
+    by_kind unread (λ s x d a. not (same_amount a (replayed (committed p) (opening_at (inputs_of b t) x) p x))) never never w
+
+-- 1 writes 900 and then 500 again, and commits; 2 is fed by the second write, by this rule by the first: the same transactions go
+pub record AgainstCommittedFails : Type 0 where
+  pub expected : reads_from is_source (history (two_writes p900 p500) 4) 2 0 ≡ some (write 3 1 0 (pos 900) (pos 500))
+  pub mistaken : reads_from (against_committed (two_writes p900 p500) (pos 500 ∷ [])) (history (two_writes p900 p500) 4) 2 0
+      ≡ some (write 2 1 0 (pos 500) (pos 900))
+  pub differ : reads_from is_source (history (two_writes p900 p500) 4) 2 0
+      ≡ reads_from (against_committed (two_writes p900 p500) (pos 500 ∷ [])) (history (two_writes p900 p500) 4) 2 0 → ⊥
+
+-- ---- request 3: rewrites are left out of the copy
+
+abbrev pub without_rewrites : History → History
+without_rewrites = keep (λ r. not (is_write r) || is_source r)
+
+-- the copy that leaves out 1 has the rewrite of 2 as its record 2, by this rule its commit: histories of three and of two records
+pub record WithoutRewritesFails : Type 0 where
+  pub expected : repaired is_source (1 ∷ []) (whole kept_rewrite)
+      ≡ commit 3 2 ∷ write 2 2 1 (pos 1000) (pos 1000) ∷ read 1 2 1 ∷ []
+  pub mistaken : renumber (without_rewrites (survivors is_source (1 ∷ []) (whole kept_rewrite))) ≡ commit 2 2 ∷ read 1 2 1 ∷ []
+  pub differ : repaired is_source (1 ∷ []) (whole kept_rewrite)
+      ≡ renumber (without_rewrites (survivors is_source (1 ∷ []) (whole kept_rewrite))) → ⊥

@@ -1,2 +1,2 @@
-// The worked days of document 01, as theorems; no code.
+// The worked days of documents 01 and 02, as theorems; no code.
 #![tactic(auto)]

@@ -16,7 +16,7 @@ use Rattle.lists.proofs.SearchLaws.{any_some, latest-none}
 use Rattle.model.specs.History.{Op, History, Amount, Tag, read, write, commit, abort, other, tx_of, write_of, write_to, commit_of, abort_of, end_of, committed, aborted, ended}
 use Rattle.model.specs.Undo.{is_source, Upto, all, more, reads_from, source_by, visible_to}
 use Rattle.model.proofs.Ends.{upto-length, upto-unique, tail-ends, EndsLast, not-aborted, committed-unaborted}
-use Rattle.model.proofs.ReadsFromLaws.{is_source-write, reads_from-by}
+use Rattle.model.proofs.ReadsFromLaws.{is_source-changed, changed-is_source, reads_from-by}
 use Rattle.model.proofs.Legal.{Legal}
 use Rattle.model.proofs.Strict.{legal-ends_last, Alone, alone-read}
 use Rattle.model.proofs.Repair.{legal-ends}
@@ -151,7 +151,7 @@ reads_from-papers d e i s x p u =
 pub reads-from : ReadsFrom
 reads-from =
     record {
-      every = is_source-write;
+      feeding = λ i s x b a. (changed-is_source i s x b a, is_source-changed i s x b a);
       highest = λ p s x w. (
         reads_from-highest p s x w,
         λ h. by-reads_from p s x (λ o. o ≡ some w) (λ e. absurd (none-source p s x e w h.earlier h.there h.source))

@@ -16,7 +16,9 @@ use Rattle.format.specs.Bytes.{Bytes}
 use Rattle.format.specs.Layout.{record_at}
 use Rattle.model.specs.History.{History, Tag, read, write, commit, abort, other, is_write, write_to, aborted}
 use Rattle.model.specs.Net.{net_change, table_sum}
+use Rattle.model.specs.Undo.{is_source}
 use Rattle.model.proofs.NetLaws.{net-stands}
+use Rattle.model.proofs.ReadsFromLaws.{changed-is_source, reads_from-passes}
 use Rattle.journal.specs.Inputs.{Inputs}
 use Rattle.journal.specs.Journal.{count, items, op_of, history, whole}
 use Rattle.journal.specs.Refusals.{malformed}
@@ -26,7 +28,7 @@ use Rattle.journal.proofs.Records.{history-zero, history-suc}
 use Rattle.journal.proofs.Unrefused.{table-length, formed-cases, op_of-read, op_of-write, op_of-commit, op_of-abort}
 use Rattle.journal.proofs.Checked.{Sound, Checks}
 use Rattle.demands.specs.Undoing.{copy_in}
-use Rattle.demands.specs.Requests.{Sum, Requests}
+use Rattle.demands.specs.Requests.{Sum, Rewrite, Requests}
 use Rattle.demands.proofs.DaysLaws.{pass-checks}
 use Rattle.demands.proofs.Left.{legal-day, table-stands}
 use Rattle.demands.proofs.Join.{aborted-second}
@@ -100,5 +102,10 @@ sum =
       no_writes = no_writes_lem;
     }
 
+-- ---- request 3
+
+pub rewrite : Rewrite
+rewrite p s x i v y a e = changed-is_source i v y a a (reads_from-passes is_source p s x e) refl
+
 pub requests : Requests
-requests = record { sum = sum }
+requests = record { sum = sum; rewrite = rewrite }

@@ -72,8 +72,8 @@ pub record Demand2 : Type 1 where
   -- "the table left and the copy written are those of the delete-transaction model": the copy has just the kept sales' records,
   -- each read fed by the same write; the table is their afters set upon the opening table
   pub copy_and_table : DeleteModel
-  -- "with the reads-from rule of the published papers": what feeds a read in both, by document 01's rule; in a journal that
-  -- passes this is the papers' (`papers`)
+  -- "with the reads-from rule of the published papers": what feeds a read in both, by the rule that document 02, request 3, puts in
+  -- its place; in a journal that passes this is the papers' among the writes that changed the amount (`papers`)
   pub reads_from : ReadsFrom
   -- "What posting builds, reading accepts, with the same records and amounts": from start; onto any journal and table that pass;
   -- and onto what a take-back left

@@ -1,8 +1,10 @@
--- The requests of document 02 that are built, one field each, beside the three demands; proofs/Requests.antt proves it.
+-- What the built requests of document 02 add beside the three demands, one field each; proofs/Requests.antt proves it.
 -- Assumes nothing.
 use Rattle.std.specs.Prelude.{◌≡◌, false, List, ℕ, ℤ, pos, ◌-ℤ◌}
+use Rattle.std.proofs.Math.Option.{some}
 use Rattle.lists.specs.Search.{any}
-use Rattle.model.specs.History.{History, is_write}
+use Rattle.model.specs.History.{History, Amount, Tag, write, is_write}
+use Rattle.model.specs.Undo.{is_source, reads_from}
 use Rattle.model.specs.Net.{net_change, table_sum}
 use Rattle.journal.specs.Inputs.{Inputs}
 use Rattle.journal.specs.Journal.{whole}
@@ -22,7 +24,14 @@ pub record Sum : Type 0 where
   -- "It is 0 for a copy without writes": a history with none
   pub no_writes : (p : History) → any is_write p ≡ false → net_change p ≡ pos 0
 
+-- ---- request 3: a rewrite of the same amount
+
+-- "A write whose after equals its before no longer feeds any read": it is never what feeds one, in any history
+abbrev pub Rewrite : Type 0
+Rewrite = (p : History) (s x : ℕ) (i : Tag) (v y : ℕ) (a : Amount) → reads_from is_source p s x ≡ some (write i v y a a) → ⊥
+
 -- ---- all
 
 pub record Requests : Type 0 where
   pub sum : Sum
+  pub rewrite : Rewrite

@@ -2,30 +2,38 @@
 -- ReadsFrom), and the days that are computed.
 -- Assumes nothing.
 use mathlib.Core.Path.{◌≡◌, refl}
-use mathlib.Core.Bool.{Bool, true, false, cond, ◌&&◌}
+use mathlib.Core.Bool.{Bool, true, false, cond, not, ◌&&◌}
 use mathlib.Core.Logic.{◌⊎◌, inl, inr}
 use mathlib.Core.List.{[], ◌∷◌}
 use mathlib.Core.Option.{some}
 use Prim.Native.Nat.{ℕ}
 use lib.Dec.{eqb}
-use borrow.Author.Tests.{eqb-true, eq-eqb}
+use borrow.Author.Tests.{eqb-true, eq-eqb, not-false}
 use Rattle.std.proofs.lemmas.Bool.{or_right}
 use Rattle.lists.specs.Search.{any, latest}
 use Rattle.lists.proofs.BoolLaws.{by_cases, or_cases, and_left, and_right, clash}
 use Rattle.lists.proofs.SearchLaws.{any-keep, latest-keep, latest-kept, latest-passes}
-use Rattle.model.specs.History.{Op, History, Amount, Tag, read, write, commit, abort, other, tx_of, write_of, write_to, commit_of, committed}
+use Rattle.model.specs.History.{Op, History, Amount, Tag, same_amount, read, write, commit, abort, other, tx_of, write_of, write_to, commit_of, committed}
 use Rattle.model.specs.Undo.{is_source, SourceTest, write_by, source_by, visible_to, reads_from, only}
+use Rattle.model.proofs.Amounts.{same_refl, same-eq}
 use Rattle.model.proofs.Ends.{by_kind-untagged, commit-of}
 
--- ---- document 01: every write feeds
+-- ---- a write feeds if it changed the amount
 
-pub is_source-write : (t : Tag) (s x : ℕ) (b a : Amount) → is_source (write t s x b a) ≡ true
-unfolding is_source
-is_source-write t s x b a = refl
+module _ (t : Tag) (s x : ℕ) (b a : Amount) where
+  pub is_source-write : is_source (write t s x b a) ≡ not (same_amount b a)
+  unfolding is_source
+  is_source-write = refl
+
+  pub is_source-changed : (b ≡ a → ⊥) → is_source (write t s x b a) ≡ true
+  is_source-changed h = by_cases (same_amount b a) (λ e. absurd (h (same-eq b a e))) (λ e. rw (is_source-write, e))
+
+  pub changed-is_source : is_source (write t s x b a) ≡ true → b ≡ a → ⊥
+  changed-is_source h e = clash h (rw (is_source-write, e, same_refl a))
 
 pub is_source-test : SourceTest is_source
 unfolding is_source
-is_source-test = record { untagged = by_kind-untagged _ _ _ _; still = λ t s x b a h. clash refl h }
+is_source-test = record { untagged = by_kind-untagged _ _ _ _; still = λ t s x b a h. same-eq b a (not-false _ h) }
 
 -- ---- the newest write that may feed
 
@@ -57,6 +65,11 @@ module _ (φ : Op → Bool) where
   pub reads_from-tx : (p : History) (s x : ℕ) {w : Op} → reads_from φ p s x ≡ some w → (s ≡ tx_of w) ⊎ (committed p (tx_of w) ≡ true)
   unfolding reads_from
   reads_from-tx p s x {w} h = or_cases (eqb s (tx_of w)) _ (latest-tx (visible_to p s) x p h) (λ e. inl (eqb-true s (tx_of w) e)) inr
+
+  -- and one that may feed
+  pub reads_from-passes : (p : History) (s x : ℕ) {w : Op} → reads_from φ p s x ≡ some w → φ w ≡ true
+  unfolding reads_from
+  reads_from-passes p s x {w} h = and_right (write_by (visible_to p s) x w) (φ w) (latest-passes (source_by φ (visible_to p s) x) p h)
 
   -- where those that it sees are those of g, as far as they wrote the item
   pub reads_from-by : (g : ℕ → Bool) (p : History) (s x : ℕ) → ((v : ℕ) → any (write_of v x) p ≡ true → visible_to p s v ≡ g v) → reads_from φ p s x ≡ latest (source_by φ g x) p

@@ -1,10 +1,10 @@
 -- The rules of taking back: what feeds a read, the undo set, removal, the repaired history and the table left.
--- Document 01, "The rules of taking back". Assumes nothing.
+-- Document 01, "The rules of taking back", as document 02, request 3, amends it. Assumes nothing.
 use Rattle.std.specs.Prelude.{◌≡◌, Bool, true, false, cond, not, ◌&&◌, ◌||◌, List, [], ◌∷◌, ℕ, suc, length, eqb}
 use Rattle.std.proofs.Math.Option.{Option, none, some}
 use Rattle.lists.specs.Search.{keep, latest, member}
-use Rattle.model.specs.History.{Op, History, Amount, Tag, read, write, commit, abort, other, tx_of, by_kind, unread, never}
-use Rattle.model.specs.History.{committed}
+use Rattle.model.specs.History.{Op, History, Amount, Tag, same_amount, read, write, commit, abort, other, tx_of, by_kind}
+use Rattle.model.specs.History.{unread, never, committed}
 
 -- ---- record numbers
 
@@ -22,10 +22,10 @@ Untagged f = (i : Tag) (r : Op) → f (retag i r) ≡ f r
 
 -- ---- which writes may feed (the field: be the source of a read)
 
--- Document 01: every write. This is the one test that the calls and the statements give to what follows; only its laws look into
--- it.
+-- Document 02, request 3: one that changed the amount, its after image not its before image. This is the one test that the calls
+-- and the statements give to what follows; only its laws look into it.
 unfoldable pub is_source : Op → Bool
-is_source = by_kind unread (λ s x b a. true) never never
+is_source = by_kind unread (λ s x b a. not (same_amount b a)) never never
 
 -- what such a test has to meet: a write that may not feed leaves the amount as it was
 pub record SourceTest (φ : Op → Bool) : Type 0 where
@@ -67,7 +67,7 @@ committed_out m j s = committed j s && not (member s m)
 
 -- φ w: the write w may feed
 module _ (φ : Op → Bool) where
-  -- 01: fed: the write that feeds a read of x by s after p, the highest of them; none: the opening amount
+  -- 01, 02 (request 3): fed: the write that feeds a read of x by s after p, the highest of them; none: the opening amount
   unfoldable pub reads_from : History → ℕ → ℕ → Option Op
   reads_from p s x = latest (source_by φ (visible_to p s) x) p
 

@@ -1,5 +1,5 @@
--- The trace reaches the transactions that the undo set has: a read of a transaction that commits is fed by the newest earlier write by
--- a transaction that commits.
+-- The trace reaches the transactions that the undo set has: a read of a transaction that commits is fed by the newest earlier write
+-- that may feed, by a transaction that commits.
 -- Assumes nothing.
 use mathlib.Core.Path.{◌≡◌, refl, sym, ◌∙◌, ap, fun_ext}
 use mathlib.Core.Bool.{Bool, true, false, cond, not, ◌&&◌}

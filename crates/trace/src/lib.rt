@@ -73,11 +73,11 @@ fn trace_read(sources: &[TransactionId], r: Record, flags: &mut [bool])
     }
 }
 
-// Whether a write may feed a later read. Document 01: every write.
-fn may_feed(_r: Record) -> bool
-    ensures { (i : ℕ) → result ≡ is_source (write i _r.transaction.0 _r.item.0 _r.before _r.after) }
+// Whether a write may feed a later read: it changed the amount (document 02, request 3).
+fn may_feed(r: Record) -> bool
+    ensures { (i : ℕ) → result ≡ is_source (write i r.transaction.0 r.item.0 r.before r.after) }
 {
-    true
+    r.before != r.after
 }
 
 // A write that may feed: it feeds later reads if its transaction commits.

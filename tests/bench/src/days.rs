@@ -115,13 +115,26 @@ impl Builder {
         self.journal.len() / RECORD_BYTES - 1 - self.counts.iter().sum::<u32>() as usize
     }
 
-    /// Adds a record if it is not refused.
+    /// Adds a record if it is not refused. A write has any amount, at times the one that is there.
     fn add(&mut self, kind: u8, transaction: u16, item: u32) -> bool {
         let after = if kind == WRITE {
             self.random.amount()
         } else {
             0
         };
+        self.add_after(kind, transaction, item, after)
+    }
+
+    /// Adds a write of another amount than the item has, so that it feeds.
+    fn change(&mut self, transaction: u16, item: u32) {
+        let mut after = self.random.amount();
+        if after == self.table[item as usize] {
+            after ^= 1;
+        }
+        assert!(self.add_after(WRITE, transaction, item, after));
+    }
+
+    fn add_after(&mut self, kind: u8, transaction: u16, item: u32, after: i32) -> bool {
         let append = Append {
             kind,
             transaction,
@@ -234,10 +247,9 @@ fn single(builder: &mut Builder) {
 fn chain(builder: &mut Builder) {
     for transaction in 1..=builder.room() as u16 / 4 {
         let item = u32::from(transaction);
-        builder.add_all(
-            transaction,
-            &[(READ, item - 1), (READ, item), (WRITE, item), (COMMIT, 0)],
-        );
+        builder.add_all(transaction, &[(READ, item - 1), (READ, item)]);
+        builder.change(transaction, item);
+        builder.add_all(transaction, &[(COMMIT, 0)]);
     }
 }
 

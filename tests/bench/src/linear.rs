@@ -376,8 +376,8 @@ pub fn undo(
     })
 }
 
-/// The status of each transaction number. A read is fed by the last write of its item whose
-/// transaction commits: other writers' open writes are refused before.
+/// The status of each transaction number. A read is fed by the last write of its item that changed
+/// the amount and whose transaction commits: other writers' open writes are refused before.
 fn fates(records: &[u8], ends: &[u8; NUMBERS], bad: &[u16]) -> [u8; NUMBERS] {
     let mut undone = [false; NUMBERS];
     for &transaction in bad {
@@ -389,7 +389,9 @@ fn fates(records: &[u8], ends: &[u8; NUMBERS], bad: &[u16]) -> [u8; NUMBERS] {
         let item = u32_at(bytes, 8) as usize;
         match bytes[0] {
             READ => undone[transaction as usize] |= undone[feeders[item] as usize],
-            WRITE if ends[transaction as usize] == COMMIT => feeders[item] = transaction,
+            WRITE if ends[transaction as usize] == COMMIT && changes(bytes) => {
+                feeders[item] = transaction
+            }
             _ => {}
         }
     }
@@ -400,6 +402,11 @@ fn fates(records: &[u8], ends: &[u8; NUMBERS], bad: &[u16]) -> [u8; NUMBERS] {
         }
     }
     fates
+}
+
+/// The write's after is not its before.
+fn changes(bytes: &[u8; SIZE]) -> bool {
+    u32_at(bytes, 12) != u32_at(bytes, 16)
 }
 
 /// How many of the first i records survive, for each i, and how many of all.

@@ -1,5 +1,5 @@
-//! Days written by hand, each with its answer from document 01, asked of the proved library and,
-//! for the report, of the built program.
+//! Days written by hand, each with its answer from documents 01 and 02, asked of the proved library
+//! and, for the report, of the built program.
 
 #[path = "../../plain/tests/by_hand/boundaries.rs"]
 mod boundaries;
@@ -18,6 +18,8 @@ mod mistakes;
 mod program;
 #[path = "../../plain/tests/by_hand/readings.rs"]
 mod readings;
+#[path = "../../plain/tests/by_hand/rewriting.rs"]
+mod rewriting;
 
 const CALLS: compare::Proved = compare::Proved;
 

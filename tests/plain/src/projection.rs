@@ -21,9 +21,10 @@ pub fn removal(journal: &[u8], removed: &[u16]) -> Vec<(u32, Option<u32>)> {
     sources
 }
 
-/// A read by transaction T of an item is fed by the highest earlier write of that item whose
-/// transaction is T or has already committed; without one by the opening amount (`None`).
-/// Only records of transactions not in `removed` count.
+/// A read by transaction T of an item is fed by the highest earlier write of that item that
+/// changed the amount and whose transaction is T or has already committed; without one by the
+/// opening amount (`None`). A write whose after is its before feeds no read, not even T's own
+/// (02, request 3). Only records of transactions not in `removed` count.
 pub(crate) fn reads_from(records: &[Record], read: usize, removed: &[u16]) -> Option<usize> {
     let this = &records[read];
     (1..read).rev().find(|&i| {
@@ -31,6 +32,7 @@ pub(crate) fn reads_from(records: &[Record], read: usize, removed: &[u16]) -> Op
         !removed.contains(&r.transaction)
             && r.is_write()
             && r.item == this.item
+            && r.after != r.before
             && (r.transaction == this.transaction || committed_before(records, r.transaction, read))
     })
 }

@@ -6,6 +6,7 @@ use plain::days::{day, undo_sequence};
 use plain::format::encode_all;
 use plain::properties::history::{whole_length, History};
 use plain::properties::reporting::{sum_of_day, Sums};
+use plain::properties::rewriting::{reads_are_fed_by_changes, Rewrites};
 use plain::run::{is_whole, on_threads, scaled, Trying};
 
 #[test]
@@ -29,6 +30,49 @@ fn the_sum_is_what_the_tables_differ_by() {
     parts.into_iter().for_each(|part| sums.add(part));
     print!("{}", sums.line());
     assert!(!is_whole() || sums.fewest() > 100, "{sums:?}");
+}
+
+#[test]
+fn each_read_is_fed_by_a_change() {
+    let seeds = scaled(3_000);
+    let reads = on_threads(seeds, |seeds| {
+        let tried = seeds.map(|seed| {
+            let _trying = Trying("feeding", seed);
+            reads_are_fed_by_changes(plain::removal, seed)
+        });
+        tried.sum::<u64>()
+    });
+    let reads: u64 = reads.iter().sum();
+    println!("feeding: {seeds} days drawn, {reads} reads");
+    assert!(!is_whole() || reads > 30_000, "{reads}");
+}
+
+/// Rewrites of each kind are among the days, and each other rule of what feeds is told from the
+/// right one. The large days are left out.
+#[test]
+fn days_tell_the_rules_of_feeding_apart() {
+    let mut rewrites = Rewrites::default();
+    let parts = on_threads(scaled(20_000), |seeds| {
+        let mut part = Rewrites::default();
+        for seed in seeds.filter(|seed| seed % 100 != 0) {
+            let _trying = Trying("rewrites", seed);
+            let mut day = day(seed);
+            let undo = plain::undo(
+                &day.journal,
+                &mut day.table,
+                &day.bad,
+                &mut day.status,
+                &mut day.out,
+            );
+            if undo.is_ok() {
+                part.note(&day.journal, &day.bad, &day.status);
+            }
+        }
+        part
+    });
+    parts.into_iter().for_each(|part| rewrites.add(part));
+    print!("{}", rewrites.lines());
+    assert!(!is_whole() || rewrites.fewest() > 10, "{rewrites:?}");
 }
 
 #[test]

@@ -5,10 +5,11 @@ use plain::days::Append;
 use plain::format::{Record, RECORD_BYTES};
 use plain::properties::counting::*;
 use plain::properties::cutting::*;
-use plain::properties::history::History;
+use plain::properties::history::{is_rewrite, History, Rule, CHANGED};
 use plain::properties::loans::bytes_behind_the_last_record_do_not_matter;
 use plain::properties::posting::*;
 use plain::properties::reporting::sum_of_day;
+use plain::properties::rewriting::*;
 use plain::properties::undoing::*;
 use plain::{Refusal, Undone};
 use std::panic::{catch_unwind, AssertUnwindSafe};
@@ -207,6 +208,15 @@ fn sum_is_seen(report: Report) {
     is_seen(holds, Wrong { report, ..right() });
 }
 
+/// What feeds by another rule: the property of feeding fails on one of the first seeds.
+fn feeding_is_seen(rule: Rule) {
+    let feeding =
+        |journal: &[u8], removed: &[u16]| History::of(journal).without(removed).sources(rule);
+    let holds = |seed| reads_are_fed_by_changes(feeding, seed);
+    let fails = |seed| catch_unwind(AssertUnwindSafe(|| holds(seed))).is_err();
+    assert!((0..300).any(fails));
+}
+
 /// The report with another sum, if the day is accepted.
 fn with_sum(report: Vec<u8>, other: impl FnOnce(i64) -> i64) -> Vec<u8> {
     let text = String::from_utf8(report).unwrap();
@@ -244,7 +254,7 @@ fn taking_only_the_list() {
 fn taking_direct_readers_only() {
     let direct = |given: Undoing| {
         given.taking(|history, bad| {
-            let pairs = history.dependencies().into_iter();
+            let pairs = history.dependencies(CHANGED).into_iter();
             let readers = pairs.filter(|(_, writer)| bad.contains(writer));
             let mut names: Vec<u16> = readers.map(|(reader, _)| reader).collect();
             names.extend(bad);
@@ -580,4 +590,115 @@ fn summing_in_32_bits() {
         })
     };
     sum_is_seen(narrow);
+}
+
+#[test]
+fn feeding_by_every_write() {
+    let old = |given: Undoing| given.taking(|history, bad| history.undo_set(bad, EVERY_WRITE));
+    undo_is_seen(undone_set_is_the_least, old);
+    undo_is_seen(which_lists_undo_accepts, old);
+    undo_is_seen(rewrites_draw_nobody_in, old);
+    feeding_is_seen(EVERY_WRITE);
+}
+
+#[test]
+fn feeding_by_rises_only() {
+    let rises = |given: Undoing| given.taking(|history, bad| history.undo_set(bad, RISES));
+    undo_is_seen(undone_set_is_the_least, rises);
+    undo_is_seen(what_is_left_is_the_models, rises);
+    feeding_is_seen(RISES);
+}
+
+#[test]
+fn feeding_by_falls_only() {
+    let falls = |given: Undoing| given.taking(|history, bad| history.undo_set(bad, FALLS));
+    undo_is_seen(undone_set_is_the_least, falls);
+    undo_is_seen(what_is_left_is_the_models, falls);
+    feeding_is_seen(FALLS);
+}
+
+#[test]
+fn holding_the_after_against_the_opening_amount() {
+    let opening =
+        |given: Undoing| given.taking(|history, bad| history.undo_set(bad, NOT_THE_OPENING));
+    undo_is_seen(undone_set_is_the_least, opening);
+    undo_is_seen(rewrites_draw_nobody_in, opening);
+    feeding_is_seen(NOT_THE_OPENING);
+}
+
+#[test]
+fn holding_the_after_against_the_last_amount_written() {
+    let last =
+        |given: Undoing| given.taking(|history, bad| history.undo_set(bad, NOT_THE_LAST_WRITTEN));
+    undo_is_seen(undone_set_is_the_least, last);
+    feeding_is_seen(NOT_THE_LAST_WRITTEN);
+}
+
+/// By this 5 to 7 to 5 in one transaction does not feed.
+#[test]
+fn feeding_by_net_changes_only() {
+    let net = |given: Undoing| given.taking(|history, bad| history.undo_set(bad, NET_CHANGES));
+    undo_is_seen(undone_set_is_the_least, net);
+    feeding_is_seen(NET_CHANGES);
+}
+
+#[test]
+fn feeding_by_nothing_behind_a_rewrite() {
+    let hidden = |given: Undoing| {
+        given.taking(|history, bad| history.undo_set(bad, NOTHING_BEHIND_A_REWRITE))
+    };
+    undo_is_seen(undone_set_is_the_least, hidden);
+    undo_is_seen(rewrites_draw_nobody_in, hidden);
+    feeding_is_seen(NOTHING_BEHIND_A_REWRITE);
+}
+
+#[test]
+fn comparing_the_lower_halves() {
+    let halves = |given: Undoing| given.taking(|history, bad| history.undo_set(bad, LOWER_HALVES));
+    undo_is_seen(undone_set_is_the_least, halves);
+    feeding_is_seen(LOWER_HALVES);
+}
+
+/// A transaction has read what it rewrites, so undo gives the same; the feeding write differs.
+#[test]
+fn feeding_by_own_rewrites() {
+    feeding_is_seen(OWN_REWRITES);
+}
+
+/// The last committed amount: the feeding write is another one of the same transaction.
+#[test]
+fn holding_the_after_against_the_amount_found() {
+    feeding_is_seen(NOT_THE_FOUND);
+}
+
+#[test]
+fn leaving_rewrites_out_of_the_copy() {
+    let without = |mut given: Undoing| {
+        let lent = given.out.to_vec();
+        let answer = given.again().right()?;
+        let copy = History::of(given.out).without_rewrites();
+        given.out.copy_from_slice(&lent);
+        given.out[..copy.len()].copy_from_slice(&copy);
+        Ok(Undone {
+            bytes: copy.len() as u64,
+            ..answer
+        })
+    };
+    undo_is_seen(what_is_left_is_the_models, without);
+    undo_is_seen(rewrites_draw_nobody_in, without);
+}
+
+#[test]
+fn keeping_a_listed_transaction_of_rewrites() {
+    let idle = |given: Undoing| {
+        let records = History::of(given.journal).records;
+        let changes = |t: &u16| {
+            let mut own = records[1..].iter().filter(|r| r.transaction == *t);
+            own.any(|r| r.is_write() && !is_rewrite(r))
+        };
+        let bad: Vec<u16> = given.bad.iter().copied().filter(changes).collect();
+        Undoing { bad: &bad, ..given }.right()
+    };
+    undo_is_seen(undone_set_is_the_least, idle);
+    undo_is_seen(which_lists_undo_accepts, idle);
 }

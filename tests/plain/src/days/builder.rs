@@ -12,7 +12,7 @@ pub enum Progress {
     Aborted,
 }
 
-/// What an item was before its transaction's first write of it.
+/// What an item was before its transaction's first write of it, a rewrite or not.
 struct FirstWrite {
     item: u32,
     before: i32,
@@ -29,7 +29,8 @@ struct Transaction {
     records: u32,
 }
 
-/// The slots of one item. `writer` is the last one that has not rolled back, 0 for none.
+/// The slots of one item. `writer` is the last one that changed the amount and has not rolled
+/// back, 0 for none.
 #[derive(Clone, Default)]
 struct Item {
     initial: i32,
@@ -111,6 +112,23 @@ impl Builder {
         }
     }
 
+    /// What an item stands at.
+    pub fn value(&self, item: u32) -> i32 {
+        self.items[item as usize].value
+    }
+
+    /// What an item stood at when the day began.
+    pub fn initial(&self, item: u32) -> i32 {
+        self.items[item as usize].initial
+    }
+
+    /// What an item stood at before this active transaction wrote it.
+    pub fn found(&self, transaction: u16, item: u32) -> i32 {
+        let writes = &self.transactions[transaction as usize].writes;
+        let first = writes.iter().find(|write| write.item == item);
+        first.map_or(self.value(item), |write| write.before)
+    }
+
     pub fn table(&self) -> Vec<i32> {
         self.items.iter().map(|item| item.value).collect()
     }
@@ -163,8 +181,10 @@ impl Builder {
                 writer: slot.writer,
             });
         }
+        if after != before {
+            slot.writer = transaction;
+        }
         slot.value = after;
-        slot.writer = transaction;
         slot.active_writer = transaction;
     }
 

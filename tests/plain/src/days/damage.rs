@@ -11,7 +11,7 @@ pub fn damage_records(random: &mut Random, records: &mut Vec<Record>, focus: usi
         insert_record(random, records, 1);
     } else {
         let i = focus.clamp(1, count);
-        match random.below(10) {
+        match random.below(12) {
             0 => records[i].kind = random.between(1, 4) as u8,
             1 => records[i].transaction = random.pick(&records[1..]).transaction,
             2 => records[i].item = random.below(records[0].item as usize) as u32,
@@ -21,6 +21,12 @@ pub fn damage_records(random: &mut Random, records: &mut Vec<Record>, focus: usi
             6 => records.insert(i, records[i]),
             7 => records.swap(i, random.between(1, count)),
             8 => records[i].before = records[i].before.wrapping_add(1),
+            // The amount that was there is written, or another one as if it had been there.
+            9 => records[i].after = records[i].before,
+            10 => {
+                records[i].before = random.amount();
+                records[i].after = records[i].before;
+            }
             _ => insert_record(random, records, i),
         }
     }

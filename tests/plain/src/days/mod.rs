@@ -8,7 +8,7 @@ mod random;
 
 use crate::format::*;
 use builder::Builder;
-use play::{any_number, dependence, numbers, play, Shape};
+use play::{any_number, dependence, numbers, play, taps, Shape};
 
 pub use random::Random;
 
@@ -63,7 +63,8 @@ pub struct Known {
     pub repaired_bytes: usize,
 }
 
-/// The day of this seed. Most are small; every 100th is large, every 20th in between.
+/// The day of this seed. Most are small, every other one of taps; every 100th is large, every 20th
+/// in between.
 pub fn day(seed: u64) -> Day {
     let random = &mut Random::new(seed);
     let builder = draw_journal(random, seed);
@@ -117,6 +118,9 @@ fn draw_journal(random: &mut Random, seed: u64) -> Builder {
         draw_large(random, seed / 100)
     } else if seed % 20 == 1 {
         draw_medium(random)
+    } else if seed % 2 == 0 {
+        let terminated = random.percent(92);
+        draw_taps(random, terminated)
     } else {
         draw_small(random)
     }
@@ -134,16 +138,35 @@ fn draw_small(random: &mut Random) -> Builder {
         aborts: random.pick(&[0, 20, 50]),
         terminations: random.between(10, 40),
         hot: random.between(1, items),
+        rewrites: random.pick(&[0, 20, 50, 90]),
+        returns: random.pick(&[0, 10, 40]),
     };
     play(random, &shape)
+}
+
+/// Short transactions one after the other over an item or two, with many writes that leave the
+/// amount as it is or bring back an earlier one.
+fn draw_taps(random: &mut Random, terminated: bool) -> Builder {
+    let transactions = random.between(2, 10);
+    let shape = Shape {
+        items: random.pick(&[1, 1, 2, 3]),
+        numbers: numbers(random, transactions),
+        terminated,
+        aborts: random.pick(&[0, 15]),
+        rewrites: random.pick(&[0, 10, 30]),
+        returns: random.pick(&[10, 40]),
+        ..Shape::default()
+    };
+    taps(random, &shape)
 }
 
 fn draw_medium(random: &mut Random) -> Builder {
     let items = random.between(1, 40);
     let transactions = random.between(5, 60);
     let numbers = numbers(random, transactions);
+    let rewrites = random.pick(&[0, 10, 40, 95]);
     if random.percent(30) {
-        return dependence(random, &numbers, items, 15);
+        return dependence(random, &numbers, items, 15, rewrites);
     }
     let shape = Shape {
         items,
@@ -154,14 +177,15 @@ fn draw_medium(random: &mut Random) -> Builder {
         aborts: random.pick(&[0, 20, 60]),
         terminations: random.between(5, 30),
         hot: random.between(1, items.min(8)),
+        rewrites,
+        returns: random.pick(&[0, 10, 40]),
     };
     play(random, &shape)
 }
 
-/// The limits of the layout: 3,200 records, 1,024 transactions, 1,024 items.
-fn draw_large(random: &mut Random, turn: u64) -> Builder {
+fn large_shape(random: &mut Random) -> Shape {
     let all = numbers(random, MAX_TRANSACTION as usize);
-    let mut shape = Shape {
+    Shape {
         items: MAX_ITEMS as usize,
         numbers: all,
         records: MAX_RECORDS as usize,
@@ -170,7 +194,14 @@ fn draw_large(random: &mut Random, turn: u64) -> Builder {
         aborts: 15,
         terminations: 26,
         hot: 40,
-    };
+        rewrites: random.pick(&[0, 20, 60]),
+        returns: 10,
+    }
+}
+
+/// The limits of the layout: 3,200 records, 1,024 transactions, 1,024 items.
+fn draw_large(random: &mut Random, turn: u64) -> Builder {
+    let mut shape = large_shape(random);
     match turn % 5 {
         0 => {}
         1 => {
@@ -181,14 +212,15 @@ fn draw_large(random: &mut Random, turn: u64) -> Builder {
         }
         2 => {
             let items = random.pick(&[1, 2, 500]);
-            return dependence(random, &shape.numbers, items, 5);
+            return dependence(random, &shape.numbers, items, 5, shape.rewrites);
         }
         3 => {
             shape.numbers.truncate(random.between(1, 30));
-            shape.terminations = 1;
+            shape.terminations = random.below(2);
             shape.items = random.between(1, 20);
             shape.hot = shape.items;
             shape.aborts = 40;
+            shape.rewrites = 95;
         }
         _ => {
             shape.records = random.between(1_000, 3_199);
@@ -263,7 +295,7 @@ fn draw_bad(random: &mut Random, builder: &Builder, seed: u64) -> Vec<u16> {
     let length = match random.below(10) {
         0 | 1 => 0,
         2 => random.below(60),
-        _ => random.between(1, 4),
+        _ => random.pick(&[1, 1, 1, 2, 3, 4]),
     };
     if !commits.is_empty() {
         for _ in 0..length {
@@ -323,7 +355,11 @@ fn draw_append(random: &mut Random, builder: &Builder) -> Append {
         READ | WRITE => draw_accessed(random, builder),
         _ => 0,
     };
-    let after = if kind == WRITE { random.amount() } else { 0 };
+    let after = match kind {
+        WRITE if random.percent(25) => builder.value(item),
+        WRITE => random.amount(),
+        _ => 0,
+    };
     Append {
         kind,
         transaction,
@@ -419,11 +455,20 @@ pub struct Appends {
     pub appends: Vec<Append>,
 }
 
-/// Random posts, many of which are refused.
+/// Random posts, many of which are refused. In half of the sequences there are two amounts only, so
+/// that many writes leave the amount as it is.
 pub fn appends(seed: u64) -> Appends {
     let random = &mut Random::new(!seed);
     let items = random.between(1, 4);
     let length = random.between(20, 20 * 40);
+    let few = random.percent(50);
+    let draw_amount = |random: &mut Random| {
+        if few {
+            random.below(2) as i32
+        } else {
+            random.amount()
+        }
+    };
     let one = |random: &mut Random| {
         let kind = random.pick(&[0, 1, 1, 1, 1, 1, 1, 2, 2, 2, 2, 2, 2, 3, 3, 4, 5]);
         let access = kind == READ || kind == WRITE || random.percent(10);
@@ -436,12 +481,12 @@ pub fn appends(seed: u64) -> Appends {
             } else {
                 0
             },
-            after: if amount { random.amount() } else { 0 },
+            after: if amount { draw_amount(random) } else { 0 },
         }
     };
     let count = random.between(10, 120);
     Appends {
-        initial: play::initial_table(random, items),
+        initial: (0..items).map(|_| draw_amount(random)).collect(),
         journal: random.bytes(length),
         appends: (0..count).map(|_| one(random)).collect(),
     }
@@ -466,6 +511,23 @@ pub struct UndoSequence {
 /// A random sequence of undo calls, refused ones included.
 pub fn undo_sequence(seed: u64) -> UndoSequence {
     let random = &mut Random::new(seed ^ 0x5EED);
+    let builder = if random.percent(35) {
+        draw_taps(random, true)
+    } else {
+        draw_finished(random)
+    };
+    let mut journal = encode_all(&builder.records);
+    damage::lengthen(random, &mut journal);
+    let calls = (0..random.below(6)).map(|_| draw_call(random, &builder));
+    UndoSequence {
+        journal,
+        table: builder.table(),
+        calls: calls.collect(),
+    }
+}
+
+/// Interleaved transactions, all of them ended.
+fn draw_finished(random: &mut Random) -> Builder {
     let items = random.between(1, 8);
     let transactions = random.between(1, 20);
     let shape = Shape {
@@ -477,16 +539,10 @@ pub fn undo_sequence(seed: u64) -> UndoSequence {
         aborts: random.pick(&[0, 20, 50]),
         terminations: random.between(10, 40),
         hot: random.between(1, items),
+        rewrites: random.pick(&[0, 20, 50, 90]),
+        returns: random.pick(&[0, 10, 40]),
     };
-    let builder = play(random, &shape);
-    let mut journal = encode_all(&builder.records);
-    damage::lengthen(random, &mut journal);
-    let calls = (0..random.below(6)).map(|_| draw_call(random, &builder));
-    UndoSequence {
-        journal,
-        table: builder.table(),
-        calls: calls.collect(),
-    }
+    play(random, &shape)
 }
 
 fn draw_call(random: &mut Random, builder: &Builder) -> UndoCall {

@@ -5,6 +5,7 @@ use super::random::Random;
 use crate::format::*;
 
 /// What a played journal looks like.
+#[derive(Default)]
 pub struct Shape {
     pub items: usize,
     /// The transaction numbers to use, in the order of their first records.
@@ -21,6 +22,10 @@ pub struct Shape {
     pub terminations: usize,
     /// How many items most accesses go to.
     pub hot: usize,
+    /// How many of a hundred writes leave the amount as it is.
+    pub rewrites: usize,
+    /// How many of a hundred other writes go back to an amount that the item had.
+    pub returns: usize,
 }
 
 /// Up to `count` different transaction numbers: from 1 on, down from 1,024, or anywhere.
@@ -41,7 +46,7 @@ fn shuffle(random: &mut Random, list: &mut [u16]) {
     }
 }
 
-pub fn initial_table(random: &mut Random, items: usize) -> Vec<i32> {
+fn initial_table(random: &mut Random, items: usize) -> Vec<i32> {
     (0..items).map(|_| random.amount()).collect()
 }
 
@@ -84,7 +89,7 @@ fn turn(random: &mut Random, builder: &mut Builder, shape: &Shape, transaction: 
         if !reads.is_empty() && random.percent(50) {
             let item = random.pick(reads);
             if builder.may_write(transaction, item) {
-                let after = random.amount();
+                let after = draw_after(random, builder, shape, transaction, item);
                 return builder.write(transaction, item, after);
             }
         }
@@ -94,6 +99,29 @@ fn turn(random: &mut Random, builder: &mut Builder, shape: &Shape, transaction: 
         }
     }
     terminate(random, builder, shape, transaction);
+}
+
+/// The amount that is there; the one that the transaction found, or the opening amount; one that
+/// differs in a single bit; any.
+fn draw_after(
+    random: &mut Random,
+    builder: &Builder,
+    shape: &Shape,
+    transaction: u16,
+    item: u32,
+) -> i32 {
+    if random.percent(shape.rewrites) {
+        builder.value(item)
+    } else if random.percent(shape.returns) {
+        match builder.found(transaction, item) {
+            found if found != builder.value(item) => found,
+            _ => builder.initial(item),
+        }
+    } else if random.percent(30) {
+        builder.value(item) ^ 1 << random.below(32)
+    } else {
+        random.amount()
+    }
 }
 
 fn any_item(random: &mut Random, shape: &Shape) -> u32 {
@@ -118,9 +146,42 @@ fn terminate(random: &mut Random, builder: &mut Builder, shape: &Shape, transact
     }
 }
 
+/// Transactions of the given shape, one after the other: each reads an item, reads and writes it up
+/// to four times more, and ends; the last one only if all do. Some change no amount at all.
+pub fn taps(random: &mut Random, shape: &Shape) -> Builder {
+    let mut builder = Builder::new(&initial_table(random, shape.items));
+    for &transaction in &shape.numbers {
+        let item = random.below(shape.items) as u32;
+        let idle = random.percent(35);
+        builder.read(transaction, item);
+        for _ in 0..random.below(5) {
+            if random.percent(30) {
+                builder.read(transaction, item);
+            } else if idle {
+                builder.write(transaction, item, builder.value(item));
+            } else {
+                let after = draw_after(random, &builder, shape, transaction, item);
+                builder.write(transaction, item, after);
+            }
+        }
+        if shape.terminated || shape.numbers.last() != Some(&transaction) {
+            terminate(random, &mut builder, shape, transaction);
+        }
+    }
+    builder.finish();
+    builder
+}
+
 /// A long chain of dependence: each transaction reads what the one before wrote, writes on, and
-/// commits; some roll back between. The chain passes through the items in turn.
-pub fn dependence(random: &mut Random, numbers: &[u16], items: usize, aborts: usize) -> Builder {
+/// commits; some roll back between, and some write the amount that is there. The chain passes
+/// through the items in turn.
+pub fn dependence(
+    random: &mut Random,
+    numbers: &[u16],
+    items: usize,
+    aborts: usize,
+    rewrites: usize,
+) -> Builder {
     let mut builder = Builder::new(&initial_table(random, items));
     let mut from = 0;
     for &transaction in numbers {
@@ -132,7 +193,11 @@ pub fn dependence(random: &mut Random, numbers: &[u16], items: usize, aborts: us
         if to != from {
             builder.read(transaction, to);
         }
-        let after = random.amount();
+        let after = if random.percent(rewrites) {
+            builder.value(to)
+        } else {
+            random.amount()
+        };
         builder.write(transaction, to, after);
         if random.percent(aborts) {
             builder.abort(transaction);

@@ -7,6 +7,7 @@ pub mod history;
 pub mod loans;
 pub mod posting;
 pub mod reporting;
+pub mod rewriting;
 pub mod undoing;
 
 use crate::compare::Implementation;
@@ -20,7 +21,7 @@ struct Property<I> {
     holds: fn(&I, u64) -> u64,
 }
 
-fn all<I: Implementation>() -> [Property<I>; 12] {
+fn all<I: Implementation>() -> [Property<I>; 13] {
     let property = |name, seeds, cases, holds| Property {
         name,
         seeds,
@@ -81,6 +82,12 @@ fn all<I: Implementation>() -> [Property<I>; 12] {
             1_500,
             1_000,
             undoing::what_is_left_is_the_models,
+        ),
+        property(
+            "rewrites draw nobody in",
+            1_500,
+            1_000,
+            rewriting::rewrites_draw_nobody_in,
         ),
         property(
             "incremental repair equals one call",

@@ -1,6 +1,6 @@
 //! The sum under the report (02, request 1).
 
-use super::history::History;
+use super::history::{History, CHANGED};
 use crate::compare::Implementation;
 use crate::days::day;
 use crate::format::{Record, FILE_BYTES};
@@ -43,26 +43,6 @@ impl Lines {
     }
 }
 
-/// The committed transactions that the list and the reads-from of the journal draw in, rising.
-fn undone(history: &History, bad: &[u16]) -> Vec<u16> {
-    let mut undone = bad.to_vec();
-    undone.sort();
-    undone.dedup();
-    let pairs = history.dependencies();
-    let mut settled = false;
-    while !settled {
-        settled = true;
-        for (reader, writer) in &pairs {
-            if undone.contains(writer) && !undone.contains(reader) {
-                undone.push(*reader);
-                settled = false;
-            }
-        }
-    }
-    undone.sort();
-    undone
-}
-
 fn total(amounts: &[i32]) -> i64 {
     amounts.iter().map(|&amount| i64::from(amount)).sum()
 }
@@ -83,7 +63,7 @@ pub fn sum_in(journal: &[u8], table: &[u8], bad: &[u8], text: &[u8]) -> Option<i
         .collect();
 
     let history = History::of(journal);
-    let back = undone(&history, &bad);
+    let back = history.undo_set(&bad, CHANGED);
     assert_eq!(lines.back, back);
     let mut kept = history.commits();
     kept.retain(|t| !back.contains(t));

@@ -1,6 +1,6 @@
 //! Undo of finished days (01: take-back).
 
-use super::history::History;
+use super::history::{History, CHANGED};
 use super::posting::{intact_day, rebuilt};
 use crate::compare::{answers, repair, Implementation};
 use crate::days::{undo_sequence, Random, UndoSequence};
@@ -45,7 +45,7 @@ impl Sets {
         let commits = history.commits();
         let position = |t: u16| commits.binary_search(&t).unwrap();
         let mut sources = vec![0; commits.len()];
-        for (reader, writer) in history.dependencies() {
+        for (reader, writer) in history.dependencies(CHANGED) {
             sources[position(reader)] |= 1 << position(writer);
         }
         Sets { commits, sources }

@@ -6,24 +6,27 @@ use plain::compare::Implementation;
 
 #[test]
 fn full_journal_of_1024_transactions() {
-    // 1,024 transactions of three or four records, 3,200 records in all.
+    // 1,024 transactions of three or four records, 3,200 records in all. Each write adds a penny.
     let mut lines = Vec::new();
+    let mut amount = 0;
     for transaction in 1..=1_024 {
         lines.push(read(transaction, 0));
-        lines.push(write(transaction, 0, 0, 0));
-        if transaction <= 128 {
-            lines.push(write(transaction, 0, 0, 0));
+        for _ in 0..if transaction <= 128 { 2 } else { 1 } {
+            lines.push(write(transaction, 0, amount, amount + 1));
+            amount += 1;
         }
         lines.push(commit(transaction));
     }
-    assert_eq!(lines.len(), 3_200);
+    assert_eq!((lines.len(), amount), (3_200, 1_152));
     let full = journal(1, &lines);
-    assert_eq!(check(&full, &[0]), Ok(0));
-    let all = repair(&full, &[0], &[1]);
+    assert_eq!(check(&full, &[1_152]), Ok(0));
+    let all = repair(&full, &[1_152], &[1]);
     assert_eq!(all.answer, counts(0, 1_024, 0, 20));
-    let last = repair(&full, &[0], &[1_024]);
+    assert_eq!(all.table, [0]);
+    let last = repair(&full, &[1_152], &[1_024]);
     assert_eq!(last.answer, counts(1_023, 1, 0, 20 * 3_198));
-    let none = repair(&full, &[0], &[]);
+    assert_eq!(last.table, [1_151]);
+    let none = repair(&full, &[1_152], &[]);
     assert_eq!(none.answer, counts(1_024, 0, 0, 64_020));
     assert_eq!(none.repaired, full);
 }

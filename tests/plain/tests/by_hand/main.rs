@@ -1,4 +1,5 @@
-//! Days written by hand, each with its answer from document 01, asked of the plain implementation.
+//! Days written by hand, each with its answer from documents 01 and 02, asked of the plain
+//! implementation.
 
 mod boundaries;
 mod common;
@@ -8,6 +9,7 @@ mod example;
 mod limits;
 mod mistakes;
 mod readings;
+mod rewriting;
 
 pub use plain::report;
 

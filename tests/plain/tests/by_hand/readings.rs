@@ -345,13 +345,14 @@ fn own_and_aborted_reads() {
 fn a_tainted_reader_without_writes_is_undone() {
     let lines = [
         read(1, 0),
-        write(1, 0, 1, 1),
+        write(1, 0, 1, 2),
+        write(1, 0, 2, 1),
         commit(1),
         read(2, 0),
         commit(2),
     ];
     let repair = repair(&journal(1, &lines), &[1], &[1]);
     assert_eq!(repair.undone, [1, 2]);
-    // By the write and not by its value: the amount did not change.
+    // By the write and not by its value: the amount is the opening one.
     assert_eq!(repair.table, [1]);
 }
