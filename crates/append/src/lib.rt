@@ -37,7 +37,7 @@ fn before_image(table: &[i32], kind: u8, item: Key) -> i32
     ensures { result ≡ cond (eqb kind 2) (amount_at table.now item.0) (pos 0) }
 {
     if let Ok(Kind::Write) = Kind::try_from(kind) {
-        at(table, item, 0)
+        at::<Key, _>(table, item, 0)
     } else {
         0
     }

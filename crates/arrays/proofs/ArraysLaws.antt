@@ -6,6 +6,7 @@ use mathlib.Core.List.{List}
 use Prim.Native.Nat.{ℕ, ◌<◌}
 use native.Mathlib.Omega.{arith}
 use lib.Dec.{eqb}
+use lib.ListN.{length}
 use borrow.Author.Tests.{eqb-true}
 use Rattle.lists.proofs.BoolLaws.{by_cases}
 use Rattle.lists.proofs.TablesLaws.{ByIndex, by_index}
@@ -23,6 +24,9 @@ module _ (p : History) where
   pub ends-array : ByIndex (end_code p) 1025 (ends_of p)
   unfolding ends_of
   ends-array = by_index _ 1025
+
+  pub length-ends : length (ends_of p) ≡ 1025
+  length-ends = ends-array.size
 
   pub firsts-array : ByIndex (first_tag p) 1025 (firsts_of p)
   unfolding firsts_of

@@ -1,22 +1,23 @@
 -- Who wrote an item last, from the record of its last write.
 -- Assumes nothing.
-use mathlib.Core.Path.{◌≡◌, sym, ◌∙◌, ap}
+use mathlib.Core.Path.{◌≡◌, refl, sym, ◌∙◌, ap}
 use mathlib.Core.Bool.{Bool, true, false, or-true, or-false}
 use mathlib.Core.List.{List}
-use mathlib.Core.Logic.{◌⊎◌, inl, inr}
 use mathlib.Core.Option.{none, some}
 use Prim.Native.Nat.{ℕ, ◌+◌, ◌*◌, ◌<◌, ◌≤◌}
 use native.Mathlib.Omega.{arith}
 use lib.Dec.{eqb}
+use borrow.Author.Tests.{ne_eqb}
 use lib.ListN.{length, get_or, get_or-map}
-use Rattle.std.proofs.lemmas.List.{length-map}
+use Rattle.std.specs.Prelude.{map}
+use Rattle.std.proofs.lemmas.List.{length-map, get_or-map as at-map}
 use Rattle.format.specs.Layout.{record_at}
 use Rattle.model.specs.History.{tag_in, write_to}
 use Rattle.journal.specs.Journal.{tx_in, op_of, history}
 use Rattle.journal.proofs.Records.{tx_of-op_of}
 use Rattle.arrays.specs.declared.Touched.{Touched}
 use Rattle.arrays.specs.declared.end.End.{End}
-use Rattle.arrays.specs.declared.end.End.TheVariants.{Open, Committed, Aborted}
+use Rattle.arrays.specs.declared.end.End.TheVariants.{Open}
 use Rattle.arrays.specs.Ends.{code_of, codes}
 use Rattle.arrays.specs.Recent.{last_write}
 use Rattle.arrays.specs.Arrays.{Ready, ends_of, writes_of}
@@ -28,20 +29,29 @@ use Rattle.arrays.proofs.ArraysLaws.{ends-array, writes-array}
 pub code-at : (l : List End) (i : ℕ) → get_or (codes l) i 0 ≡ code_of (get_or l i Open)
 code-at l i = get_or-map code_of l i Open
 
-module _ (ends : List End) (s v : ℕ) (f : Touched) where
-  pub looked-own : (t : Bool) → t ≡ eqb s v → t ≡ true → ◌≡◌ {A = Touched} (record { other = f.other; own = true }) (looked (codes ends) s v f)
+-- the code of an entry that is there
+pub code-read : {A : Type 0} (code : A → ℕ) (l : List A) (i j c : ℕ) (r : A) → c ≡ code r → r ≡ get_or l i r → i ≡ j → j < length l → c ≡ get_or (map code l) j 0
+code-read code l i j c r e f h k = e ∙ ap code (f ∙ ap (λ n. get_or l n r) h) ∙ sym (at-map code l j r 0 k)
+
+-- of any list of codes
+module _ (m : List ℕ) (s v : ℕ) (f : Touched) where
+  pub looked-own : (t : Bool) → t ≡ eqb s v → t ≡ true → ◌≡◌ {A = Touched} (record { other = f.other; own = true }) (looked m s v f)
   unfolding looked
   looked-own t e h = rw (← e, h, or-false f.other, or-true f.own)
 
-  module _ (t : Bool) (e : t ≡ eqb s v) (h : t ≡ false) (i : ℕ) (q : i ≡ v) where
-    pub looked-open : get_or ends i Open ≡ Open → ◌≡◌ {A = Touched} (record { other = true; own = f.own }) (looked (codes ends) s v f)
+  module _ (t : Bool) (e : t ≡ eqb s v) (h : t ≡ false) (end : ℕ) (q : end ≡ get_or m v 0) where
+    pub looked-other : end ≡ 0 → ◌≡◌ {A = Touched} (record { other = true; own = f.own }) (looked m s v f)
     unfolding looked
-    looked-open z = rw (← e, h, ← q, code-at ends i, z, or-false f.own, or-true f.other)
+    looked-other z = rw (← e, h, ← q, z, or-false f.own, or-true f.other)
 
-    pub looked-ended : (get_or ends i Open ≡ Committed) ⊎ (get_or ends i Open ≡ Aborted) → f ≡ looked (codes ends) s v f
+    pub looked-ended : (end ≡ 0 → ⊥) → f ≡ looked m s v f
     unfolding looked
-    looked-ended (inl z) = rw (← e, h, ← q, code-at ends i, z, or-false f.own, or-false f.other)
-    looked-ended (inr z) = rw (← e, h, ← q, code-at ends i, z, or-false f.own, or-false f.other)
+    looked-ended z = rw (← e, h, ← q, ne_eqb end 0 z, or-false f.own, or-false f.other)
+
+-- of the ends themselves
+module _ (ends : List End) (s v : ℕ) (f : Touched) (t : Bool) (e : t ≡ eqb s v) (h : t ≡ false) (i : ℕ) (q : i ≡ v) where
+  pub looked-open : get_or ends i Open ≡ Open → ◌≡◌ {A = Touched} (record { other = true; own = f.own }) (looked (codes ends) s v f)
+  looked-open z = looked-other (codes ends) s v f t e h 0 (sym (rw (← q, code-at ends i, z))) refl
 
 -- ---- the last writer
 

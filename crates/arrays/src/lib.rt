@@ -1,9 +1,8 @@
 // What one pass over the records keeps, and who wrote an item last.
 #![tactic(auto)]
 
-ghost use Rattle.std.specs.Prelude.{◌≡◌, ◌<◌, length};
+ghost use Rattle.std.specs.Prelude.{◌≡◌, ◌<◌, length, map};
 ghost use Rattle.format.specs.Limits.{max_items};
-ghost use Rattle.arrays.specs.Ends.{codes};
 ghost use Rattle.arrays.specs.Past.{past};
 ghost use Rattle.arrays.specs.Writers.{writer_of, looked};
 
@@ -14,7 +13,7 @@ mod pass;
 pub use end::End;
 use format::{Key, Lsn, TransactionId, transaction_at};
 pub use kept::{Amounts, Kept, Seen, Touches, Writers};
-use lists::Number;
+use lists::{Code, Number};
 pub use pass::{Pass, Passed};
 
 // Who touched an item: another active transaction, and the one that asks.
@@ -25,19 +24,20 @@ pub struct Touched {
 }
 
 // What was found so far, with transaction v added; s asks.
-pub fn look(ends: &[End], s: TransactionId, v: TransactionId, found: Touched) -> Touched
+pub fn look<E: Code>(ends: &[E], s: TransactionId, v: TransactionId, found: Touched) -> Touched
     requires { v.0 < length ends.now }
-    ensures { result ≡ looked (codes ends.now) s.0 v.0 found }
+    ensures { result ≡ looked (map E.code ends.now) s.0 v.0 found }
 {
     if s == v {
         return Touched { own: true, ..found };
     }
-    match ends[v.index()] {
-        End::Open => Touched {
+    if ends[TransactionId::index(v)].code() == End::Open as u8 {
+        Touched {
             other: true,
             ..found
-        },
-        End::Committed | End::Aborted => found,
+        }
+    } else {
+        found
     }
 }
 
@@ -50,7 +50,7 @@ pub fn last_writer(writers: &Writers, x: Key, s: TransactionId) -> Touched
         other: false,
         own: false,
     };
-    let w = Lsn(writers.writes[x.index()]);
+    let w = Lsn(writers.writes[Key::index(x)]);
     if w.0 == 0 {
         return nobody;
     }

@@ -42,7 +42,7 @@ pub fn append(
         (record { kind = kind; tx = transaction.0; item = item.0; after = after })
         (appended_of result counts.new journal.new table.new) }
 {
-    let _seen = at(table, item, 0);
+    let _seen = at::<Key, _>(table, item, 0);
     append::append(counts, journal, table, kind, transaction, item, after)
 }
 

@@ -23,7 +23,7 @@ use scan::records;
 fn first_of(firsts: &[u32], s: TransactionId) -> Result<Lsn, Reason>
     ensures { answer_of (λ i. i.0) result ≡ first_in firsts.now s.0 }
 {
-    let first = at(firsts, s, 0);
+    let first = at::<TransactionId, _>(firsts, s, 0);
     if first == 0 {
         Err(Reason::Unknown(0))
     } else {

@@ -69,7 +69,7 @@ pub fn deliver(
         out.old).out }
 {
     let ranks = repair::ranks(records, fates);
-    let bytes = RECORD_BYTES * (at(&ranks, Lsn(records.count), 0) as usize + 1);
+    let bytes = RECORD_BYTES * (at::<Lsn, _>(&ranks, Lsn(records.count), 0) as usize + 1);
     if out.len() < bytes {
         return Err(Reason::Capacity);
     }

@@ -1,7 +1,7 @@
 // What is tried before transactions are taken back: refusals 1 to 11 of the journal and the table, 13 and 12 of the other loans.
 #![tactic(auto)]
 
-ghost use Rattle.std.specs.Prelude.{◌≡◌, IfOk};
+ghost use Rattle.std.specs.Prelude.{◌≡◌, IfOk, map};
 ghost use Rattle.model.specs.History.{active};
 ghost use Rattle.journal.specs.Inputs.{inputs_of};
 ghost use Rattle.journal.specs.Journal.{history};
@@ -10,14 +10,13 @@ ghost use Rattle.journal.specs.Calls.{answered};
 ghost use Rattle.journal.specs.Outcomes.{answer_of, refusal_in};
 ghost use Rattle.fields.specs.Answers.{size_of};
 ghost use Rattle.fields.specs.Heads.{size};
-ghost use Rattle.arrays.specs.Ends.{codes};
 ghost use Rattle.examine.specs.Stages.{unknown_in, admit_order, examined_order, unsettled_order};
 
 use arrays::{End, Pass, Passed};
 use fields::header;
 use format::{STATUS_BYTES, TRANSACTIONS_END, TransactionId};
 use journal::Reason;
-use lists::at;
+use lists::{Code, code_at};
 use settle::is_active;
 use validate::{verify_opened, verify_records};
 
@@ -71,21 +70,22 @@ pub fn examine_unsettled<'j>(journal: &'j [u8], table: &[i32]) -> Result<Passed<
 }
 
 // Refusal 12: the lowest position whose number is no committed transaction's.
-fn known(ends: &[End], bad: &[u16]) -> Result<(), Reason>
-    ensures { refusal_in result ≡ decide (known_order (unknown_in (codes ends.now)) bad.now) }
+#[tactic(auto, using(crate::proofs::StagesLaws::known_refused))]
+fn known<E: Code>(ends: &[E], bad: &[u16]) -> Result<(), Reason>
+    ensures { refusal_in result ≡ decide (known_order (unknown_in (map E.code ends.now)) bad.now) }
 {
     for (k, s) in bad.iter().enumerate() {
-        match at(ends, TransactionId(*s), End::Open) {
-            End::Committed => {}
-            End::Open | End::Aborted => return Err(Reason::Unknown(k)),
+        let end = code_at::<TransactionId, _>(ends, TransactionId(*s));
+        if end != End::Committed as u8 {
+            return Err(Reason::Unknown(k));
         }
     }
     Ok(())
 }
 
 // Refusal 13, then 12.
-pub fn admit(ends: &[End], bad: &[u16], status: &[u8]) -> Result<(), Reason>
-    ensures { refusal_in result ≡ decide (admit_order (codes ends.now) bad.now status.now) }
+pub fn admit<E: Code>(ends: &[E], bad: &[u16], status: &[u8]) -> Result<(), Reason>
+    ensures { refusal_in result ≡ decide (admit_order (map E.code ends.now) bad.now status.now) }
 {
     if status.len() != STATUS_BYTES {
         return Err(Reason::StatusLength);

@@ -16,7 +16,8 @@ ghost use Rattle.extend.specs.Entering.{lsn_of, restored_by, Admitted};
 
 use counts::Counts;
 use format::{
-    Kind, Lsn, RECORD_BYTES, Record, TransactionId, Wire, put_record, record_at, transaction_at,
+    Key, Kind, Lsn, RECORD_BYTES, Record, TransactionId, Wire, put_record, record_at,
+    transaction_at,
 };
 use lists::Number;
 
@@ -71,7 +72,7 @@ fn undo_write(journal: &[u8], i: Lsn, s: TransactionId, table: &mut [i32])
     let r = record_at(journal, i);
     if let Ok(Kind::Write) = Kind::try_from(r.kind) {
         if r.transaction == s {
-            table[r.item.index()] = r.before;
+            table[Key::index(r.item)] = r.before;
         }
     }
 }
@@ -98,7 +99,7 @@ fn apply(journal: &[u8], n: u32, r: Record, table: &mut [i32])
         ≡ calls.applied_table (history journal.now n) (op_of (n + 1) r) table.old }
 {
     match Kind::try_from(r.kind) {
-        Ok(Kind::Write) => table[r.item.index()] = r.after,
+        Ok(Kind::Write) => table[Key::index(r.item)] = r.after,
         Ok(Kind::Abort) => restore(journal, n, r.transaction, table),
         _ => {}
     }

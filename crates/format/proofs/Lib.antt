@@ -1,2 +1,3 @@
 pub mod BytesLaws
 pub mod LayoutLaws
+pub mod Twos

@@ -116,6 +116,9 @@ clear-each f i n h = all-each _ f i n h
 pub each-clear : (f : ℕ → Order) (i n : ℕ) → Clear (each f i n) → (k : ℕ) → i ≤ k → k < i + n → Clear (f k)
 each-clear f i n c = each_all _ f i n c
 
+pub clear-tried : (n : ℕ) (f : ℕ → Bool) (i m : ℕ) → ((k : ℕ) → i ≤ k → k < i + m → f k ≡ false) → Clear (try_each n f i m)
+clear-tried n f i m h = all-tried (λ t. t.holds ≡ false) n f i m h
+
 pub tried-clear : (n : ℕ) (f : ℕ → Bool) (i m : ℕ) → Clear (try_each n f i m) → (k : ℕ) → i ≤ k → k < i + m → f k ≡ false
 unfolding try_each
 tried-clear n f i m c k l u = try-clear n k (f k) (each-clear (λ k. try n k (f k)) i m c k l u)

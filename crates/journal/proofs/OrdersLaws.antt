@@ -11,7 +11,7 @@ use lib.Dec.{eqb}
 use borrow.Author.Tests.{eqb-true, eqb-false}
 use Rattle.lists.specs.Tables.{each}
 use Rattle.lists.proofs.BoolLaws.{by_cases}
-use Rattle.lists.proofs.TablesLaws.{each-zero, each-suc, each-ext}
+use Rattle.lists.proofs.TablesLaws.{each-zero, each-suc, each_last, each-ext}
 use Rattle.lists.specs.Search.{or_else}
 use Rattle.journal.specs.Orders.{Refusal, Order, try, try_each, in_turn, decide}
 
@@ -110,6 +110,11 @@ decide-each f i (suc n) r e =
     let (k, a, b, c, d) = decide-each f (suc i) n r (sym (decide-append-none (f i) (each f (suc i) n) z) ∙ (rw (each-suc f i n) at e)) in
     (k, omega arith, omega arith, c, λ m l h. by_cases (eqb i m) (λ q. rw (← eqb-true i m q) z) (λ q. let v = eqb-false i m q in d m (omega arith) h)))
     (λ q z. (i, omega arith, omega arith, z ∙ sym (decide-append-some (f i) (each f (suc i) n) z) ∙ (rw (each-suc f i n) at e), λ m l h. absurd (omega arith)))
+
+-- all up to an index pass, and the next does
+pub each_more : (f : ℕ → Order) (n : ℕ) → decide (each f 1 n) ≡ none → decide (f (suc n)) ≡ none → decide (each f 1 (suc n)) ≡ none
+each_more f n a c =
+    ap decide (each_last f 1 n) ∙ decide-append (each f 1 n) (f (1 + n)) ∙ rw a (ap (λ k. decide (f k)) (omega arith) ∙ c)
 
 -- a loop from the lowest index: what is left from i on decides d
 module _ (f : ℕ → Order) (i m : ℕ) (d : Option Refusal) (e : d ≡ decide (each f i (m - i))) where

@@ -6,9 +6,11 @@ use mathlib.Core.List.{List}
 use Prim.Native.Nat.{ℕ, ◌+◌, ◌*◌, ◌≤◌}
 use native.Mathlib.Omega.{arith}
 use lib.ListN.{length}
+use Rattle.lists.proofs.TablesLaws.{length-tabulate}
 use Rattle.model.specs.Undo.{only, renumber}
 use Rattle.journal.specs.Journal.{count, items, records, whole}
 use Rattle.journal.specs.Copy.{CopyRule, records_surviving, copy_surviving}
+use Rattle.journal.specs.Results.{status_vector}
 use Rattle.journal.proofs.Records.{length-copied_by, length-records}
 use Rattle.journal.proofs.Encoded.{length-journal_of}
 
@@ -25,3 +27,7 @@ module _ (φ : CopyRule) (k : ℕ → Bool) (b : List ℕ) where
 
   pub copy_surviving-most : length (copy_surviving φ k b) ≤ 20 * (count b + 1)
   copy_surviving-most = omega (arith, records_surviving-few, copy_surviving-length)
+
+pub length-status_vector : (u k : ℕ → Bool) → length (status_vector u k) ≡ 1025
+unfolding status_vector
+length-status_vector u k = length-tabulate _ 0 1025

@@ -1,7 +1,7 @@
 // The lines of take-back's answer, written into a buffer.
 #![tactic(auto)]
 
-ghost use Rattle.std.specs.Prelude.{◌≡◌, ◌-◌, ◌/◌, ◌<◌, length};
+ghost use Rattle.std.specs.Prelude.{◌≡◌, ◌-◌, ◌/◌, ◌<◌, length, ⊤};
 ghost use Rattle.format.specs.Limits.{record_bytes, status_bytes};
 ghost use Rattle.journal.specs.Reasons.{number_of, place_of};
 ghost use Rattle.text.specs.Lines.{refused_line};
@@ -12,7 +12,8 @@ use deliver::UndoTotals;
 use format::{RECORD_BYTES, TRANSACTIONS_END, TransactionId};
 use journal::Reason;
 use lists::Number;
-use text::Page;
+use std::alloc::AllocError;
+use text::{Page, Sum};
 use trace::Fate;
 
 // The line of transaction s, if its status is 2 (document 01: mark 2, taken back).
@@ -23,7 +24,7 @@ fn put_undone_in(page: &mut Page, status: &[u8], s: TransactionId)
     requires room { HasRoom page.old (undone_in status.now s.0) }
     ensures { Writes page.old (undone_in status.now s.0) page.new }
 {
-    if status[s.index()] == Fate::Undone as u8 {
+    if status[TransactionId::index(s)] == Fate::Undone as u8 {
         page.put_undone(s.0.into());
     }
 }
@@ -78,18 +79,35 @@ fn put_reason(page: &mut Page, why: Reason)
 
 // What a report is made of beside take-back's answer: the journal's record count, the statuses, the table before and after, and the
 // copy's net change, where there is a copy.
-#[derive(Clone, Copy)]
-pub struct Report<'a> {
+pub struct Report<'a, S = i64> {
     pub records: u64,
     pub status: &'a [u8],
     pub old: &'a [i32],
     pub new: &'a [i32],
-    pub sum: i64,
+    pub sum: S,
     ghost marks: { length status.now ≡ status_bytes },
     ghost tables: { length old.now ≡ length new.now },
 }
 
-impl Report<'_> {
+impl<S: Copy> Clone for Report<'_, S> {
+    ghost is_clone = { λ x y. y ≡ x };
+
+    ghost is_infallible = { λ _. ⊤ };
+
+    fn clone(&self) -> Result<Self, AllocError> {
+        Ok(Report {
+            records: self.records,
+            status: self.status,
+            old: self.old,
+            new: self.new,
+            sum: self.sum,
+        })
+    }
+}
+
+impl<S: Copy> Copy for Report<'_, S> {}
+
+impl<S: Sum> Report<'_, S> {
     ghost use Rattle.std.specs.Prelude.{◌≡◌};
     ghost use Rattle.journal.specs.Calls.{accepted};
     ghost use Rattle.text.specs.Pages.{HasRoom, Writes};
@@ -100,8 +118,8 @@ impl Report<'_> {
 
     // The lines of an accepted take-back.
     fn put_accepted(&self, page: &mut Page, totals: UndoTotals)
-        requires { HasRoom page.old (report_lines self.now (accepted (totals_of totals))) }
-        ensures { Writes page.old (report_lines self.now (accepted (totals_of totals))) page.new }
+        requires { HasRoom page.old (report_lines S.digits self.now (accepted (totals_of totals))) }
+        ensures { Writes page.old (report_lines S.digits self.now (accepted (totals_of totals))) page.new }
     {
         page.put_counts(self.records, copied_records(totals.bytes) as u64);
         put_all_undone(page, self.status);
@@ -116,8 +134,8 @@ impl Report<'_> {
 
     // The lines of take-back's answer.
     fn put_lines(&self, page: &mut Page, answer: Result<UndoTotals, Reason>)
-        requires { HasRoom page.old (report_lines self.now (answer_of totals_of answer)) }
-        ensures { Writes page.old (report_lines self.now (answer_of totals_of answer)) page.new }
+        requires { HasRoom page.old (report_lines S.digits self.now (answer_of totals_of answer)) }
+        ensures { Writes page.old (report_lines S.digits self.now (answer_of totals_of answer)) page.new }
     {
         match answer {
             Ok(totals) => self.put_accepted(page, totals),
@@ -127,8 +145,8 @@ impl Report<'_> {
 
     // The lines of take-back's answer, at the front of a buffer, and where they end.
     pub fn put_answer(&self, answer: Result<UndoTotals, Reason>, out: &mut [u8]) -> usize
-        requires { Fits 0 (report_lines self.now (answer_of totals_of answer)) out.old }
-        ensures { Put 0 (report_lines self.now (answer_of totals_of answer)) out.old out.new result }
+        requires { Fits 0 (report_lines S.digits self.now (answer_of totals_of answer)) out.old }
+        ensures { Put 0 (report_lines S.digits self.now (answer_of totals_of answer)) out.old out.new result }
     {
         let mut page = Page { bytes: out, end: 0 };
         self.put_lines(&mut page, answer);

@@ -8,9 +8,10 @@ use native.Mathlib.Nat.{add-zero, zero-add}
 use native.Mathlib.Omega.{arith}
 use native.Mathlib.Numerals.{add-one}
 use lib.Dec.{eqb}
+use mir.Val.{bool_byte}
 use lib.ListN.{length, take, drop, get_or, set, replicate, length-append, length-drop, length-set, length-replicate, get_or-replicate, drop_of_length-le}
 use lib.Seq.{take-append-add, length-take-le, take-append-le, take_at, drop_at, drop-append-add, get_or-take, take-take, drop-drop, sets, sets-eq, get_or-set_same, get_or-set_other, ext_get_or}
-use borrow.Author.Tests.{eqb-true, eqb-false}
+use borrow.Author.Tests.{eqb-true, eqb-false, eq-eqb, ne_eqb}
 use borrow.Rule.Slice.PartMut.{put_mid}
 use Rattle.std.proofs.lemmas.List.{drop-take}
 use Rattle.std.specs.Prelude.{filter}
@@ -54,6 +55,12 @@ module _ {A : Type 0} where
       rw here
       (ap (λ r. g j ∷ r)
       (tabulate-ext f g (suc i) (suc j) n (λ k l. ap f (omega arith) ∙ h (suc k) (omega arith) ∙ ap g (omega arith))))
+
+  -- one element more at the end
+  pub tabulate-last : (f : ℕ → A) (i n : ℕ) → tabulate f i (suc n) ≡ tabulate f i n ++ f (i + n) ∷ []
+  unfolding tabulate
+  tabulate-last f i zero = ap (λ k. f k ∷ []) (omega arith)
+  tabulate-last f i (suc n) = ap (λ r. f i ∷ r) (tabulate-last f (suc i) n ∙ ap (λ k. tabulate f (suc i) n ++ f k ∷ []) (omega arith))
 
   -- a list of n elements, the element at each index by f
   pub filled : (f : ℕ → A) (n : ℕ) (l : List A) (d : A) → length l ≡ n → ((k : ℕ) → k < n → get_or l k d ≡ f k) → l ≡ tabulate f 0 n
@@ -230,6 +237,9 @@ module _ {A : Type 0} where
     pub stepped-turn : (i : ℕ) (s t u : A) → t ≡ stepped f i s → u ≡ f (i + 1) t → u ≡ stepped f (i + 1) s
     stepped-turn i s t u e q = q ∙ rw (e, add-one) (sym (stepped-suc i s))
 
+    pub stepped-done : (n i : ℕ) (s t : A) → i ≤ n → n ≤ i → t ≡ stepped f i s → t ≡ stepped f n s
+    stepped-done n i s t h l e = let z : n ≡ i = omega arith in rw z e
+
 -- ---- a function at each element
 
 pub map-tabulate : {A B : Type 0} (g : A → B) (f : ℕ → A) (i n : ℕ) → map g (tabulate f i n) ≡ tabulate (λ k. g (f k)) i n
@@ -302,3 +312,41 @@ count_if-filter f i zero = refl
 count_if-filter f i (suc n) =
     let e : count_if f (suc i) n ≡ length (filter f (range_with_len (suc i) n)) = count_if-filter f (suc i) n in
     by_cases (f i) (λ p. rw (add-one i, p, e)) (λ p. rw (add-one i, p, e))
+
+-- ---- a loop that counts: of the numbers below s, k pass
+
+module _ (f : ℕ → Bool) (s k : ℕ) (h : 1 ≤ s) (q : k ≡ count_if f 1 (s - 1)) where
+  one_more : count_if f 1 (s + 1 - 1) ≡ cond (f s) (suc k) k
+  one_more =
+      let e : s + 1 - 1 ≡ suc (s - 1) = omega arith in
+      let g : 1 + (s - 1) ≡ s = omega arith in
+      rw (e, count_if-last f 1 (s - 1), g, q)
+
+  pub count_yes : (a : Bool) → a ≡ f s → a ≡ true → k + 1 ≡ count_if f 1 (s + 1 - 1)
+  count_yes a e t = sym (one_more ∙ rw (← e, t, add-one))
+
+  pub count_no : (a : Bool) → a ≡ f s → a ≡ false → k ≡ count_if f 1 (s + 1 - 1)
+  count_no a e t = sym (one_more ∙ rw (← e, t))
+
+  pub count-step : (a : Bool) (n : ℕ) → a ≡ f s → n ≡ bool_byte a → k + n ≡ count_if f 1 (s + 1 - 1)
+  count-step true n e p = rw p (count_yes true e refl)
+  count-step false n e p = let z : k + n ≡ k = omega (arith, p) in z ∙ count_no false e refl
+
+  -- with one more, whatever was found
+  pub count-few : (a : Bool) (n : ℕ) → n ≡ bool_byte a → k + n ≤ s
+  count-few true n p = let b = count_if-bound f 1 (s - 1) in omega (arith, q, b, p)
+  count-few false n p = let b = count_if-bound f 1 (s - 1) in omega (arith, q, b, p)
+
+pub count-start : (f : ℕ → Bool) → 0 ≡ count_if f 1 (1 - 1)
+unfolding count_if
+count-start f = refl
+
+pub count-done : (f : ℕ → Bool) (s k : ℕ) → s ≤ 1025 → 1025 ≤ s → k ≡ count_if f 1 (s - 1) → k ≡ count_if f 1 1024
+count-done f s k h l q = let e : s - 1 ≡ 1024 = omega arith in rw e at q
+
+-- one more, if the code is v
+pub one-more-yes : (c e v : ℕ) → e ≡ v → c + 1 ≡ cond (eqb e v) (c + 1) c
+one-more-yes c e v h = rw (eq-eqb e v h)
+
+pub one-more-no : (c e v : ℕ) → (e ≡ v → ⊥) → c ≡ cond (eqb e v) (c + 1) c
+one-more-no c e v h = rw (ne_eqb e v h)

@@ -4,6 +4,10 @@
 
 ghost use Rattle.std.specs.Prelude.{◌≡◌, ℕ, get_or, set};
 
+mod codes;
+
+pub use codes::{Code, Mark, code_at};
+
 // A numbering: each of its values is the index of an entry. Not `From`, whose contract a clause could not name as one number. A
 // numbering of its own type has its own `impl`, since no macro may write one.
 pub trait Number: Copy {

@@ -18,7 +18,7 @@ fn note_first(firsts: &mut [u32], s: TransactionId, i: Lsn)
     requires { s.0 < length firsts.old }
     ensures { firsts.new ≡ first_put firsts.old s.0 i.0 }
 {
-    let at = s.index();
+    let at = TransactionId::index(s);
     if firsts[at] == 0 {
         firsts[at] = i.0;
     }
@@ -30,8 +30,8 @@ fn note_read(reads: &mut [u32], links: &mut [u32], x: Key, i: Lsn)
     ensures { (reads.new ≡ set reads.old x.0 i.0)
         × (links.new ≡ set links.old i.0 (get_or reads.old x.0 0)) }
 {
-    links[i.index()] = reads[x.index()];
-    reads[x.index()] = i.0;
+    links[Lsn::index(i)] = reads[Key::index(x)];
+    reads[Key::index(x)] = i.0;
 }
 
 // Record i writes item x; `again` if its transaction wrote it last before.
@@ -41,7 +41,7 @@ fn note_write(writes: &mut [u32], bases: &mut [u32], reads: &mut [u32], x: Key, 
         × (bases.new ≡ cond again bases.old (set bases.old x.0 i.0))
         × (reads.new ≡ set reads.old x.0 0) }
 {
-    let item = x.index();
+    let item = Key::index(x);
     writes[item] = i.0;
     reads[item] = 0;
     if !again {
@@ -77,8 +77,8 @@ pub fn note(journal: &[u8], n: u32, r: Record, kept: &mut Kept)
             i,
             again,
         ),
-        Ok(Kind::Commit) => kept.ends[s.index()] = End::Committed,
-        Ok(Kind::Abort) => kept.ends[s.index()] = End::Aborted,
+        Ok(Kind::Commit) => kept.ends[TransactionId::index(s)] = End::Committed,
+        Ok(Kind::Abort) => kept.ends[TransactionId::index(s)] = End::Aborted,
         Err(_) => {}
     }
 }

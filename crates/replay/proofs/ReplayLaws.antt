@@ -1,7 +1,7 @@
 -- The table left: what one record does to it, and the table after n records.
 -- Assumes nothing.
 use mathlib.Core.Path.{◌≡◌, refl, sym, ◌∙◌, ap, subst}
-use mathlib.Core.Bool.{Bool, true, false, cond}
+use mathlib.Core.Bool.{Bool, true, false, cond, not}
 use mathlib.Core.List.{List, [], ◌∷◌}
 use Prim.Native.Nat.{ℕ, zero, suc, ◌+◌, ◌≤◌, ◌<◌}
 use native.Mathlib.Omega.{arith}
@@ -31,19 +31,21 @@ use Rattle.replay.specs.Replaying.{seen_of, left_after, opened_at, table_write, 
 
 -- ---- one record, by its kind
 
--- marks and table, one step on
-abbrev pub Step : (i : ℕ) → Record → (fates : List ℕ) → List Bool → List Amount → List Bool × List Amount → Type 0
-Step i r fates seen t s = s ≡ (seen_after (op_of i r) seen, table_after fates (op_of i r) seen t)
+module _ {A : Type 0} (unmarked marked : A) (is_unmarked : A → Bool) where
+  -- marks and table, one step on
+  abbrev pub Step : (i : ℕ) → Record → (fates : List ℕ) → List A → List Amount → List A × List Amount → Type 0
+  Step i r fates seen t s =
+      s ≡ (seen_after unmarked marked is_unmarked (op_of i r) seen, table_after unmarked marked is_unmarked fates (op_of i r) seen t)
 
-module _ (i : ℕ) (r : Record) (fates : List ℕ) (seen : List Bool) (t : List Amount) where
-  pub step-write : r.kind ≡ 2 → Step i r fates seen t (set seen r.item.0 true, table_write fates seen (tx_in r) r.item.0 r.before r.after t)
-  unfolding seen_after table_after
-  step-write k = rw (op_of-write i r k)
+  module _ (i : ℕ) (r : Record) (fates : List ℕ) (seen : List A) (t : List Amount) where
+    pub step-write : r.kind ≡ 2 → Step i r fates seen t (set seen r.item.0 marked, table_write unmarked marked is_unmarked fates seen (tx_in r) r.item.0 r.before r.after t)
+    unfolding seen_after table_after
+    step-write k = rw (op_of-write i r k)
 
-  pub step-other : (r.kind ≡ 2 → ⊥) → Step i r fates seen t (seen, t)
-  unfolding seen_after table_after
-  step-other k =
-      by-access (λ o. ◌≡◌ {A = List Bool × List Amount} (seen, t) (seen_after o seen, table_after fates o seen t)) i r (λ e. refl) (λ e. absurd (k e)) refl refl refl
+    pub step-other : (r.kind ≡ 2 → ⊥) → Step i r fates seen t (seen, t)
+    unfolding seen_after table_after
+    step-other k =
+        by-access (λ o. ◌≡◌ {A = List A × List Amount} (seen, t) (seen_after unmarked marked is_unmarked o seen, table_after unmarked marked is_unmarked fates o seen t)) i r (λ e. refl) (λ e. absurd (k e)) refl refl refl
 
 -- ---- after n records
 
@@ -55,7 +57,7 @@ left-start : (k : ℕ → Bool) (t : List Amount) → t ≡ left_after k [] t
 unfolding left_after
 left-start k t = sym (tabulate-get_or t (pos 0))
 
-seen-op : (p : History) (r : Op) → seen_after r (seen_of p) ≡ seen_of (r ∷ p)
+seen-op : (p : History) (r : Op) → seen_after false true not r (seen_of p) ≡ seen_of (r ∷ p)
 unfolding seen_after seen_of
 seen-op p (read t s x) = refl
 seen-op p (write t s x b a) = by-index-set x true false (seen-array p) (seen-array (write t s x b a ∷ p)) (rw (eq-eqb x x refl)) (λ j q. rw q)
@@ -121,7 +123,7 @@ module _ (fates : List ℕ) (l : List Amount) where
       (λ q. sym (amount-apart (coded 1 fates) l t s x b a p (0 + j) q)))
 
   left-write : (p : History) (t s x : ℕ) (b a : Amount) → x < 1024
-      → table_write fates (seen_of p) s x b a (left_after (coded 1 fates) p l) ≡ left_after (coded 1 fates) (write t s x b a ∷ p) l
+      → table_write false true not fates (seen_of p) s x b a (left_after (coded 1 fates) p l) ≡ left_after (coded 1 fates) (write t s x b a ∷ p) l
   unfolding table_write opened_at
   left-write p t s x b a h =
       by_cases (any (write_to x) p)
@@ -134,7 +136,7 @@ module _ (fates : List ℕ) (l : List Amount) where
       (λ e. rw (e, set-set) (put p t s x b a a (amount-first (coded 1 fates) l t s x b a p n ∙ rw e)))
       (λ e. rw e (put p t s x b a b (amount-first (coded 1 fates) l t s x b a p n ∙ rw e)))))
 
-  left-op : (p : History) (r : Op) → Narrow r → table_after fates r (seen_of p) (left_after (coded 1 fates) p l) ≡ left_after (coded 1 fates) (r ∷ p) l
+  left-op : (p : History) (r : Op) → Narrow r → table_after false true not fates r (seen_of p) (left_after (coded 1 fates) p l) ≡ left_after (coded 1 fates) (r ∷ p) l
   unfolding table_after left_after
   left-op p (read t s x) h = refl
   left-op p (write t s x b a) h = left-write p t s x b a h
@@ -153,19 +155,19 @@ module _ (b : List ℕ) (n i : ℕ) (k : Ready b n) (h : i < n) where
 -- from no marks at all it is the table left
 
 replay-all : (b fates : List ℕ) (n i : ℕ) (t : List Amount) → Ready b n → i ≤ n
-    → stepped (replay_step b fates) i (replicate 1024 false, t) ≡ (seen_of (history b i), left_after (coded 1 fates) (history b i) t)
+    → stepped (replay_step false true not b fates) i (replicate 1024 false, t) ≡ (seen_of (history b i), left_after (coded 1 fates) (history b i) t)
 unfolding replay_step
 replay-all b fates n zero t k h =
     let none = by-index-all false false (seen-array []) (λ j. refl) in
     let old = left-start (coded 1 fates) t in
-    sym (stepped_start (replay_step b fates) _) ∙ rw history-zero (λ v. (none v, old v))
+    sym (stepped_start (replay_step false true not b fates) _) ∙ rw history-zero (λ v. (none v, old v))
 replay-all b fates n (suc i) t k h =
     let p = history b i in
     let r = op_of (suc i) (record_at b (suc i)) in
     let new = left-op fates t p r (narrow_at b n i k (omega arith)) in
-    stepped-suc (replay_step b fates) i _ ∙ ap (replay_step b fates (suc i)) (replay-all b fates n i t k (omega arith)) ∙ rw (history-suc b i) (λ v. (seen-op p r v, new v))
+    stepped-suc (replay_step false true not b fates) i _ ∙ ap (replay_step false true not b fates (suc i)) (replay-all b fates n i t k (omega arith)) ∙ rw (history-suc b i) (λ v. (seen-op p r v, new v))
 
-pub left-done : (b fates : List ℕ) (seen : List Bool) (n : ℕ) (t m : List Amount) → Ready b n → (seen, m) ≡ stepped (replay_step b fates) n (replicate 1024 false, t)
+pub left-done : (b fates : List ℕ) (seen : List Bool) (n : ℕ) (t m : List Amount) → Ready b n → (seen, m) ≡ stepped (replay_step false true not b fates) n (replicate 1024 false, t)
     → m ≡ left_after (coded 1 fates) (history b n) t
 left-done b fates seen n t m k e = ap (λ s. s.1) (e ∙ replay-all b fates n n t k (omega arith))
 

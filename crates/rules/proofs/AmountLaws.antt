@@ -54,26 +54,34 @@ pub base-long : (b : List ℕ) (n x f : ℕ) (l : List ℕ) → Ready b n → l 
 base-long b n x f l k e h q =
     let z : f ≤ n = rw (q, e, (bases-array (history b n)).at x 0 h) (found-bound (base-found x b n)) in omega (arith, k.long)
 
-module _ (b : List ℕ) (n x w v : ℕ) (l : List ℕ) (ends : List End) (k : Ready b n) (e : l ≡ writes_of (history b n)) (h : x < 1024) (q : w ≡ get_or l x 0)
-    (z : get_or l x 0 ≡ 0 → ⊥) (t : v ≡ tx_in (record_at b w)) (g : codes ends ≡ ends_of (history b n)) where
+module _ (b : List ℕ) (n x w v : ℕ) (l : List ℕ) (k : Ready b n) (e : l ≡ writes_of (history b n)) (h : x < 1024) (q : w ≡ get_or l x 0)
+    (z : get_or l x 0 ≡ 0 → ⊥) (t : v ≡ tx_in (record_at b w)) where
   last_one : last_write (history b n) x ≡ some (op_of w (record_at b w))
   last_one = last_some b n x w l k e h q (λ y. z (sym q ∙ y))
 
   writes-x : write_to x (op_of w (record_at b w)) ≡ true
   writes-x = latest-passes (write_to x) (history b n) last_one
 
+  ends-low : v < 1025
+  ends-low = last-low b n x w l k e h q v (λ y. z (sym q ∙ y)) t
+
+  stands-by : (m : List ℕ) → m ≡ ends_of (history b n) → (d : Amount)
+      → standing d (history b n) x ≡ cond (eqb (get_or m v 0) 2) (before_in (base_write (history b n) x) (pos 0)) (after_of (op_of w (record_at b w)) (pos 0))
+  stands-by m g d =
+      let end : get_or m v 0 ≡ end_code (history b n) (tx_of (op_of w (record_at b w))) = rw (g, (ends-array (history b n)).at v 0 ends-low, t, tx_of-op_of w (record_at b w)) in
+      standing-last d x (history b n) (passing-history b n k.passed) last_one ∙ rw (last_one, end)
+
+module _ (b : List ℕ) (n x w v : ℕ) (l : List ℕ) (ends : List End) (k : Ready b n) (e : l ≡ writes_of (history b n)) (h : x < 1024) (q : w ≡ get_or l x 0)
+    (z : get_or l x 0 ≡ 0 → ⊥) (t : v ≡ tx_in (record_at b w)) (g : codes ends ≡ ends_of (history b n)) where
   pub last-ends : v < 1025
-  last-ends = last-low b n x w l k e h q v (λ y. z (sym q ∙ y)) t
+  last-ends = ends-low b n x w v l k e h q z t
 
-  end-at : code_of (get_or ends v Open) ≡ end_code (history b n) (tx_of (op_of w (record_at b w)))
-  end-at = sym (code-at ends v) ∙ rw (g, (ends-array (history b n)).at v 0 last-ends, t, tx_of-op_of w (record_at b w))
-
-  stands : (d : Amount) → standing d (history b n) x ≡ cond (eqb (code_of (get_or ends v Open)) 2) (before_in (base_write (history b n) x) (pos 0)) (after_of (op_of w (record_at b w)) (pos 0))
-  stands d = standing-last d x (history b n) (passing-history b n k.passed) last_one ∙ rw (last_one, end-at)
+  stands : standing (pos 0) (history b n) x ≡ cond (eqb (code_of (get_or ends v Open)) 2) (before_in (base_write (history b n) x) (pos 0)) (after_of (op_of w (record_at b w)) (pos 0))
+  stands = rw (← code-at ends v) (stands-by b n x w v l k e h q z t (codes ends) g (pos 0))
 
   pub standing-after : (r : Record) → (get_or ends v Open ≡ Open) ⊎ (get_or ends v Open ≡ Committed) → r ≡ record_at b w → SFits w32 r.after → to_z w32 (of_z w32 r.after) ≡ standing (pos 0) (history b n) x
   standing-after r y c f =
-      to_z-of_z w32 r.after f ∙ ap (λ u. u.after) c ∙ sym (stands (pos 0) ∙ rw (kept y) (write-after w (record_at b w) x (pos 0) writes-x))
+      to_z-of_z w32 r.after f ∙ ap (λ u. u.after) c ∙ sym (stands ∙ rw (kept y) (write-after w (record_at b w) x (pos 0) (writes-x b n x w v l k e h q z t)))
     where
       kept : (get_or ends v Open ≡ Open) ⊎ (get_or ends v Open ≡ Committed) → eqb (code_of (get_or ends v Open)) 2 ≡ false
       kept (inl o) = rw o
@@ -82,15 +90,15 @@ module _ (b : List ℕ) (n x w v : ℕ) (l : List ℕ) (ends : List End) (k : Re
   pub standing-before : (r : Record) (o : List ℕ) (j : ℕ) → get_or ends v Open ≡ Aborted → o ≡ bases_of (history b n) → j ≡ get_or o x 0 → r ≡ record_at b j
       → SFits w32 r.before → to_z w32 (of_z w32 r.before) ≡ standing (pos 0) (history b n) x
   standing-before r o j y i p c f =
-      let (u, s, a) = base-some x (history b n) (passing-history b n k.passed) last_one in
+      let (u, s, a) = base-some x (history b n) (passing-history b n k.passed) (last_one b n x w v l k e h q z t) in
       let tag : j ≡ tag_in (base_write (history b n) x) = p ∙ rw i ((bases-array (history b n)).at x 0 h) in
       let found = found_some (base-found x b n) (λ zero. none-ne-some u (sym (found_none (base-found x b n) zero) ∙ s)) in
       let same : u ≡ op_of j (record_at b j) = some_same (sym s ∙ found ∙ ap (λ t. some (op_of t (record_at b t))) (sym tag)) in
       to_z-of_z w32 r.before f ∙ ap (λ u. u.before) c
-      ∙ sym (stands (pos 0) ∙ rw (y, s, same) (write-before j (record_at b j) x (pos 0) (rw (← same) a)))
+      ∙ sym (stands ∙ rw (y, s, same) (write-before j (record_at b j) x (pos 0) (rw (← same) a)))
 
 -- whatever the table has
-pub standing-any : (b : List ℕ) (n x : ℕ) (l : List ℕ) (ends : List End) (d : Amount) → Ready b n → l ≡ writes_of (history b n) → x < 1024 → (get_or l x 0 ≡ 0 → ⊥)
-    → codes ends ≡ ends_of (history b n) → standing d (history b n) x ≡ standing (pos 0) (history b n) x
-standing-any b n x l ends d k e h z g =
-    let a = stands b n x (get_or l x 0) _ l ends k e h refl z refl g in a d ∙ sym (a (pos 0))
+pub standing-any : (b : List ℕ) (n x : ℕ) (l : List ℕ) (d : Amount) → Ready b n → l ≡ writes_of (history b n) → x < 1024 → (get_or l x 0 ≡ 0 → ⊥)
+    → standing d (history b n) x ≡ standing (pos 0) (history b n) x
+standing-any b n x l d k e h z =
+    let a = stands-by b n x (get_or l x 0) _ l k e h refl z refl (ends_of (history b n)) refl in a d ∙ sym (a (pos 0))

@@ -26,11 +26,11 @@ fn readers(touches: &Touches, x: Key, s: TransactionId, found: Touched) -> Touch
     let ends = touches.writers.ends;
     let mut all = found;
     // No index is counted: this goes from read to read, by the links.
-    let mut k = Lsn(touches.reads[x.index()]);
+    let mut k = Lsn(touches.reads[Key::index(x)]);
     while k.0 != 0 {
         let v = transaction_at(journal, k);
         all = look(ends, s, v, all);
-        k = Lsn(touches.links[k.index()]);
+        k = Lsn(touches.links[Lsn::index(k)]);
     }
     all
 }
@@ -42,11 +42,11 @@ pub fn standing_at(amounts: &Amounts, x: Key) -> i32
     ensures { result ≡ standing (pos 0) (past amounts.now.writers) x.0 }
 {
     let journal = amounts.writers.journal;
-    let w = Lsn(amounts.writers.writes[x.index()]);
+    let w = Lsn(amounts.writers.writes[Key::index(x)]);
     let v = transaction_at(journal, w);
-    match amounts.writers.ends[v.index()] {
+    match amounts.writers.ends[TransactionId::index(v)] {
         End::Aborted => {
-            let first = record_at(journal, Lsn(amounts.bases[x.index()]));
+            let first = record_at(journal, Lsn(amounts.bases[Key::index(x)]));
             first.before
         }
         End::Open | End::Committed => {
@@ -61,7 +61,7 @@ pub fn matches_standing(amounts: &Amounts, x: Key, amount: i32) -> bool
     requires { x.0 < max_items }
     ensures { result ≡ not (unlike_standing (past amounts.now.writers) x.0 amount) }
 {
-    amounts.writers.writes[x.index()] == 0 || amount == standing_at(amounts, x)
+    amounts.writers.writes[Key::index(x)] == 0 || amount == standing_at(amounts, x)
 }
 
 // Rules 7 and 8 of a read of item x by s, the next record; s has not ended. Item and transaction are given, and not the
@@ -109,7 +109,7 @@ pub fn judge_access(touches: &Touches, r: Record) -> Result<(), Reason>
         (op_of (touches.now.writers.n + 1) r)) }
 {
     let s = r.transaction;
-    match touches.writers.ends[s.index()] {
+    match touches.writers.ends[TransactionId::index(s)] {
         End::Open => {}
         End::Committed | End::Aborted => return Err(Reason::Closed(Lsn(touches.writers.n + 1))),
     }

@@ -9,7 +9,10 @@ ghost use Rattle.scan.specs.Chain.{nexts_of, broken, lowest_broken};
 
 use arrays::Pass;
 use fields::{Journal, formed};
-use format::{Lsn, MAX_TRANSACTION, Record, TRANSACTION_SLOTS, next_at, record_at, transaction_at};
+use format::{
+    Lsn, MAX_TRANSACTION, Record, TRANSACTION_SLOTS, TransactionId, next_at, record_at,
+    transaction_at,
+};
 use journal::Reason;
 use lists::Number;
 use note::note;
@@ -29,7 +32,7 @@ fn step_back(journal: Journal, j: u32, low: Lsn, slots: &mut [u32; TRANSACTION_S
     if MAX_TRANSACTION < s.0 {
         return low;
     }
-    let at = s.index();
+    let at = TransactionId::index(s);
     let later = slots[at];
     slots[at] = i.0;
     if next.0 == later { low } else { i }

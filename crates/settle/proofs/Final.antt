@@ -1,7 +1,7 @@
 -- What check answers once the records passed: rule 10 item by item, and the number of active transactions.
 -- Assumes nothing.
 use mathlib.Core.Path.{◌≡◌, refl, sym, ◌∙◌, ap}
-use mathlib.Core.Bool.{Bool, true, false, not, and-true, and-false}
+use mathlib.Core.Bool.{Bool, true, false, not, ◌&&◌, and-true, and-false}
 use mathlib.Core.Logic.{◌⊎◌, inl, inr}
 use mathlib.Core.List.{List}
 use mathlib.Core.Option.{some}
@@ -59,7 +59,7 @@ module _ (b : List ℕ) (n x : ℕ) (l : List ℕ) (t : List Amount) (ends : Lis
   unfolding unlike_standing unsettled
   settled-is =
       by_cases (any (write_to x) (history b n))
-      (λ w. rw (← at-end, w, standing-any b n x l ends (amount_at t x) k d e (λ y. clash w (unwritten y)) g)
+      (λ w. rw (← at-end, w, standing-any b n x l (amount_at t x) k d e (λ y. clash w (unwritten y)))
       (ap not (same-swap (amount_at t x) (standing (pos 0) (history b n) x))))
       (λ w. rw (← at-end, w))
 
@@ -97,6 +97,13 @@ module _ (b : List ℕ) (n : ℕ) (ends : List End) (firsts : List ℕ) (e : cod
   pub active-number : count_if (active_in (codes ends) firsts) 1 1024 ≡ count_if (active (history b n)) 1 1024
   active-number = count_if-ext _ _ 1 1 1024 (λ k h. active-at b n (1 + k) ends firsts e f (omega arith))
 
+-- from any list of codes
+module _ (ends firsts : List ℕ) (s first end : ℕ) where
+  pub active-in : first ≡ get_or firsts s 0 → end ≡ get_or ends s 0 → not (eqb first 0) && eqb end 0 ≡ active_in ends firsts s
+  unfolding active_in
+  active-in q e = rw (q, e)
+
+-- from the ends themselves
 module _ (ends : List End) (firsts : List ℕ) (s : ℕ) where
   pub active-open : get_or ends s Open ≡ Open → not (eqb (get_or firsts s 0) 0) ≡ active_in (codes ends) firsts s
   unfolding active_in

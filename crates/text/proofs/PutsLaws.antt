@@ -9,7 +9,7 @@ use Rattle.lists.proofs.TablesLaws.{store-store}
 use Rattle.text.specs.declared.Page.{Page}
 use Rattle.text.specs.Pages.{HasRoom, Writes}
 
-store-none : {A : Type 0} (at : ℕ) (l : List A) → store at [] l ≡ l
+pub store-none : {A : Type 0} (at : ℕ) (l : List A) → store at [] l ≡ l
 unfolding store
 store-none at l = sym (paste-zero l at [])
 

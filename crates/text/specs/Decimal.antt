@@ -1,6 +1,8 @@
 -- Numbers in decimal, as ASCII: 48 is the digit 0, 45 the minus sign.
 -- Document 01, "The program's day". Assumes nothing.
 use Rattle.std.specs.Prelude.{cond, List, [], ◌∷◌, ◌++◌, ℕ, zero, suc, ◌+◌, ◌/◌, ◌%◌, ltb, ℤ, pos, negsuc}
+use Rattle.text.specs.Puts.{labelled}
+use Rattle.text.specs.declared.Signed.{Signed}
 
 -- the ASCII code of a digit
 abbrev pub digit : ℕ → ℕ
@@ -19,3 +21,7 @@ decimal n = digits 20 n
 unfoldable pub decimal_z : ℤ → List ℕ
 decimal_z (pos n) = decimal n
 decimal_z (negsuc n) = 45 ∷ decimal (suc n)
+
+-- .. as a sign and a size
+unfoldable pub decimal_s : Signed → List ℕ
+decimal_s x = cond x.minus (labelled (45 ∷ []) (decimal x.size)) (decimal x.size)

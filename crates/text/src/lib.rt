@@ -2,13 +2,30 @@
 // and nothing says when it does.
 #![tactic(auto)]
 
-ghost use Rattle.text.specs.Decimal.{decimal_z};
+ghost use Rattle.std.specs.Prelude.{List, [], ◌∷◌, ℕ, ◌<◌};
+ghost use Rattle.text.specs.Decimal.{digit, decimal, decimal_z, decimal_s};
 ghost use Rattle.text.specs.Lines.{count_line, undone_line, change_line, sum_line, end_line, refused_line};
 ghost use Rattle.text.specs.Pages.{HasRoom, Writes};
 ghost use Rattle.text.specs.Parts.{text_of, texts_of};
 
 use Part::{Amount, Number, Word};
-use itoa::{Buffer, Integer};
+
+// A signed number, as it is printed: a sign and a size.
+#[derive(Clone, Copy, Debug, PartialEq, Eq)]
+pub struct Signed {
+    pub minus: bool,
+    pub size: u64,
+}
+
+// A sum that is printed: a number, or a sign and a size.
+pub trait Sum: Copy {
+    ghost digits: { Self → List ℕ };
+
+    // Writes it in decimal.
+    fn put(self, page: &mut Page)
+        requires { HasRoom page.old (digits self) }
+        ensures { Writes page.old (digits self) page.new };
+}
 
 // A buffer, and where the text in it ends; std's `Cursor` would answer each word by a `Result`. Whoever writes asks for room for just its
 // text, so no fact of the page can stand for it.
@@ -38,12 +55,40 @@ impl Page<'_> {
         self.end = end;
     }
 
-    // Writes a number in decimal.
-    fn put_number<I: Integer>(&mut self, x: I)
-        requires { HasRoom self.old (I.text x) }
-        ensures { Writes self.old (I.text x) self.new }
+    // Writes a digit.
+    fn put_digit(&mut self, d: u8)
+        requires below { d < 10 }
+        requires room { HasRoom self.old (digit d ∷ []) }
+        ensures { Writes self.old (digit d ∷ []) self.new }
     {
-        self.put_word(Buffer::new().format(x).as_bytes());
+        self.put_word(&[48 + d]);
+    }
+
+    // Writes a number in decimal.
+    fn put_number(&mut self, x: u64)
+        requires { HasRoom self.old (decimal x) }
+        ensures { Writes self.old (decimal x) self.new }
+    {
+        if x < 10 {
+            self.put_digit(x as u8);
+        } else {
+            self.put_number(x / 10);
+            self.put_digit((x % 10) as u8);
+        }
+    }
+
+    // Writes a signed number in decimal.
+    fn put_amount(&mut self, x: i64)
+        requires { HasRoom self.old (decimal_z x) }
+        ensures { Writes self.old (decimal_z x) self.new }
+    {
+        let size = x.unsigned_abs();
+        if x < 0 {
+            self.put_word(b"-");
+            self.put_number(size);
+        } else {
+            self.put_number(size);
+        }
     }
 
     fn put_part(&mut self, part: &Part)
@@ -53,7 +98,7 @@ impl Page<'_> {
         match part {
             Word(word) => self.put_word(word),
             Number(x) => self.put_number(*x),
-            Amount(x) => self.put_number(*x),
+            Amount(x) => self.put_amount(*x),
         }
     }
 
@@ -64,6 +109,28 @@ impl Page<'_> {
     {
         for part in parts {
             self.put_part(part);
+        }
+    }
+}
+
+#[tactic(auto, using(crate::proofs::LinesLaws::line_steps))]
+impl Sum for i64 {
+    ghost digits = { decimal_z };
+
+    fn put(self, page: &mut Page) {
+        page.put_part(&Amount(self));
+    }
+}
+
+#[tactic(auto, using(crate::proofs::LinesLaws::signed_steps))]
+impl Sum for Signed {
+    ghost digits = { decimal_s };
+
+    fn put(self, page: &mut Page) {
+        if self.minus {
+            page.put_line(&[Word(b"-"), Number(self.size)]);
+        } else {
+            page.put_part(&Number(self.size));
         }
     }
 }
@@ -110,11 +177,13 @@ impl Page<'_> {
     }
 
     // SUM s
-    pub fn put_sum(&mut self, s: i64)
-        requires { HasRoom self.old (sum_line (decimal_z s)) }
-        ensures { Writes self.old (sum_line (decimal_z s)) self.new }
+    pub fn put_sum<S: Sum>(&mut self, s: S)
+        requires { HasRoom self.old (sum_line (S.digits s)) }
+        ensures { Writes self.old (sum_line (S.digits s)) self.new }
     {
-        self.put_line(&[Word(b"SUM "), Amount(s), Word(b"\n")]);
+        self.put_word(b"SUM ");
+        s.put(self);
+        self.put_word(b"\n");
     }
 
     // END surviving undone aborted (document 01: kept, taken back, dropped)

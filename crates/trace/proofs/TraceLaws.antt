@@ -31,27 +31,28 @@ use Rattle.trace.proofs.CodesLaws.{flags-array, flags-more}
 
 -- ---- one record, by its kind
 
--- sources and flags, one step on
-abbrev pub Step : (i : ℕ) → Record → (ends : List ℕ) → List TransactionId → List Bool → List TransactionId × List Bool → Type 0
-Step i r ends sources flags t = t ≡ (sources_after (op_of i r) ends sources, flags_after (op_of i r) sources flags)
+module _ {A : Type 0} (unmarked marked : A) (is_marked : A → Bool) where
+  -- sources and flags, one step on
+  abbrev pub Step : (i : ℕ) → Record → (ends : List ℕ) → List TransactionId → List A → List TransactionId × List A → Type 0
+  Step i r ends sources flags t = t ≡ (sources_after (op_of i r) ends sources, flags_after unmarked marked is_marked (op_of i r) sources flags)
 
-module _ (i : ℕ) (r : Record) (ends : List ℕ) (sources : List TransactionId) (flags : List Bool) where
-  pub step-read : r.kind ≡ 1 → Step i r ends sources flags (sources, flags_read sources (tx_in r) r.item.0 flags)
-  unfolding flags_after sources_after
-  step-read k = rw (op_of-read i r k)
+  module _ (i : ℕ) (r : Record) (ends : List ℕ) (sources : List TransactionId) (flags : List A) where
+    pub step-read : r.kind ≡ 1 → Step i r ends sources flags (sources, flags_read unmarked marked is_marked sources (tx_in r) r.item.0 flags)
+    unfolding flags_after sources_after
+    step-read k = rw (op_of-read i r k)
 
-  pub step-write : r.kind ≡ 2 → is_source (write i (tx_in r) r.item.0 r.before r.after) ≡ true → Step i r ends sources flags (sources_write ends (tx_in r) r.item.0 sources, flags)
-  unfolding flags_after sources_after
-  step-write k e = rw (op_of-write i r k, e)
+    pub step-write : r.kind ≡ 2 → is_source (write i (tx_in r) r.item.0 r.before r.after) ≡ true → Step i r ends sources flags (sources_write ends (tx_in r) r.item.0 sources, flags)
+    unfolding flags_after sources_after
+    step-write k e = rw (op_of-write i r k, e)
 
-  pub step-unfeeding : r.kind ≡ 2 → is_source (write i (tx_in r) r.item.0 r.before r.after) ≡ false → Step i r ends sources flags (sources, flags)
-  unfolding flags_after sources_after
-  step-unfeeding k e = rw (op_of-write i r k, e)
+    pub step-unfeeding : r.kind ≡ 2 → is_source (write i (tx_in r) r.item.0 r.before r.after) ≡ false → Step i r ends sources flags (sources, flags)
+    unfolding flags_after sources_after
+    step-unfeeding k e = rw (op_of-write i r k, e)
 
-  pub step-other : (r.kind ≡ 1 → ⊥) → (r.kind ≡ 2 → ⊥) → Step i r ends sources flags (sources, flags)
-  unfolding flags_after sources_after
-  step-other k l =
-      by-access (λ o. ◌≡◌ {A = List TransactionId × List Bool} (sources, flags) (sources_after o ends sources, flags_after o sources flags)) i r (λ e. absurd (k e)) (λ e. absurd (l e)) refl refl refl
+    pub step-other : (r.kind ≡ 1 → ⊥) → (r.kind ≡ 2 → ⊥) → Step i r ends sources flags (sources, flags)
+    unfolding flags_after sources_after
+    step-other k l =
+        by-access (λ o. ◌≡◌ {A = List TransactionId × List A} (sources, flags) (sources_after o ends sources, flags_after unmarked marked is_marked o sources flags)) i r (λ e. absurd (k e)) (λ e. absurd (l e)) refl refl refl
 
 -- ---- the arrays after p
 
@@ -83,7 +84,7 @@ Narrow c p (commit t s) = Unit {0}
 Narrow c p (abort t s) = Unit {0}
 Narrow c p (other t s) = Unit {0}
 
-flags-op : (c : ℕ → Bool) (bad : List ℕ) (p : History) (r : Op) → Narrow c p r → flags_after r (sources_of c p) (flags_of (traced c bad p)) ≡ flags_of (traced c bad (r ∷ p))
+flags-op : (c : ℕ → Bool) (bad : List ℕ) (p : History) (r : Op) → Narrow c p r → flags_after false true (λ f. f) r (sources_of c p) (flags_of (traced c bad p)) ≡ flags_of (traced c bad (r ∷ p))
 unfolding flags_after flags_read
 flags-op c bad p (read t s x) n =
     rw ((sources-array c p).at x nobody n.0, (flags-array (traced c bad p)).at (source c p x) false n.1)
@@ -110,20 +111,24 @@ module _ (b : List ℕ) (n i : ℕ) (k : Ready b n) (h : i < n) where
 
 -- ---- the pass
 
+-- with flags of Bool
+abbrev bool_step : List ℕ → List ℕ → ℕ → List TransactionId × List Bool → List TransactionId × List Bool
+bool_step = trace_step false true (λ f. f)
+
 -- from no source at all and the flags of the list it is the trace
 
 trace-all : (b ends bad : List ℕ) (n i : ℕ) → Ready b n → i ≤ n
-    → stepped (trace_step b ends) i (replicate 1024 nobody, flags_of bad) ≡ (sources_of (coded 1 ends) (history b i), flags_of (traced (coded 1 ends) bad (history b i)))
+    → stepped (bool_step b ends) i (replicate 1024 nobody, flags_of bad) ≡ (sources_of (coded 1 ends) (history b i), flags_of (traced (coded 1 ends) bad (history b i)))
 unfolding trace_step
 trace-all b ends bad n zero k h =
-    sym (stepped_start (trace_step b ends) _) ∙ rw history-zero (ap (λ l. (l, flags_of bad)) (by-index-all nobody nobody (sources-array (coded 1 ends) []) (λ j. refl)))
+    sym (stepped_start (bool_step b ends) _) ∙ rw history-zero (ap (λ l. (l, flags_of bad)) (by-index-all nobody nobody (sources-array (coded 1 ends) []) (λ j. refl)))
 trace-all b ends bad n (suc i) k h =
     let p = history b i in
     let r = op_of (suc i) (record_at b (suc i)) in
     let new = flags-op (coded 1 ends) bad p r (narrow_at b n i k (omega arith) (coded 1 ends)) in
-    stepped-suc (trace_step b ends) i _ ∙ ap (trace_step b ends (suc i)) (trace-all b ends bad n i k (omega arith)) ∙ rw (history-suc b i) (λ v. (sources-op ends p r v, new v))
+    stepped-suc (bool_step b ends) i _ ∙ ap (bool_step b ends (suc i)) (trace-all b ends bad n i k (omega arith)) ∙ rw (history-suc b i) (λ v. (sources-op ends p r v, new v))
 
-pub trace-done : (b ends bad : List ℕ) (flags₀ flags : List Bool) (sources : List TransactionId) (n : ℕ) → Ready b n → flags₀ ≡ flags_of bad → (sources, flags) ≡ stepped (trace_step b ends) n (replicate 1024 nobody, flags₀)
+pub trace-done : (b ends bad : List ℕ) (flags₀ flags : List Bool) (sources : List TransactionId) (n : ℕ) → Ready b n → flags₀ ≡ flags_of bad → (sources, flags) ≡ stepped (bool_step b ends) n (replicate 1024 nobody, flags₀)
     → flags ≡ flags_of (traced (coded 1 ends) bad (history b n))
 trace-done b ends bad flags₀ flags sources n k f e =
-    ap (λ s. s.1) (e ∙ ap (λ l. stepped (trace_step b ends) n (replicate 1024 nobody, l)) f ∙ trace-all b ends bad n n k (omega arith))
+    ap (λ s. s.1) (e ∙ ap (λ l. stepped (bool_step b ends) n (replicate 1024 nobody, l)) f ∙ trace-all b ends bad n n k (omega arith))

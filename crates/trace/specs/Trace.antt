@@ -1,7 +1,7 @@
 -- The undo set by one forward pass: the transaction whose committed write feeds each item, and a flag for each transaction reached.
 -- The pass goes on from any sources and any flags.
 -- Assumes nothing.
-use Rattle.std.specs.Prelude.{Bool, true, false, cond, not, ◌&&◌, List, [], ◌∷◌, ℕ, eqb, get_or, set}
+use Rattle.std.specs.Prelude.{Bool, cond, not, ◌&&◌, List, [], ◌∷◌, ℕ, eqb, get_or, set}
 use Rattle.std.proofs.Math.Option.{Option, none, some}
 use Rattle.lists.specs.Search.{latest, member}
 use Rattle.lists.specs.Tables.{tabulate}
@@ -45,22 +45,9 @@ traced c bad (other t s ∷ p) = traced c bad p
 abbrev pub nobody : TransactionId
 nobody = record { 0 = 0 }
 
--- a read of item x by s
-unfoldable pub flags_read : List TransactionId → ℕ → ℕ → List Bool → List Bool
-flags_read sources s x flags =
-    let f : ℕ = (get_or sources x nobody).0 in
-    cond (not (eqb f 0) && get_or flags f false) (set flags s true) flags
-
 -- a write of item x by s that may feed
 unfoldable pub sources_write : List ℕ → ℕ → ℕ → List TransactionId → List TransactionId
 sources_write ends s x sources = cond (coded 1 ends s) (set sources x (record { 0 = s })) sources
-
-unfoldable pub flags_after : Op → List TransactionId → List Bool → List Bool
-flags_after (read t s x) sources flags = flags_read sources s x flags
-flags_after (write t s x b a) sources flags = flags
-flags_after (commit t s) sources flags = flags
-flags_after (abort t s) sources flags = flags
-flags_after (other t s) sources flags = flags
 
 unfoldable pub sources_after : Op → List ℕ → List TransactionId → List TransactionId
 sources_after (read t s x) ends sources = sources
@@ -69,6 +56,21 @@ sources_after (commit t s) ends sources = sources
 sources_after (abort t s) ends sources = sources
 sources_after (other t s) ends sources = sources
 
--- what record i of a journal does to sources and flags
-unfoldable pub trace_step : List ℕ → List ℕ → ℕ → List TransactionId × List Bool → List TransactionId × List Bool
-trace_step b ends i s = let r : Op = op_of i (record_at b i) in (sources_after r ends s.0, flags_after r s.0 s.1)
+-- flags of any kind: what is stored for none, what for one, and which values count as one
+module _ {A : Type 0} (unmarked marked : A) (is_marked : A → Bool) where
+  -- a read of item x by s
+  unfoldable pub flags_read : List TransactionId → ℕ → ℕ → List A → List A
+  flags_read sources s x flags =
+      let f : ℕ = (get_or sources x nobody).0 in
+      cond (not (eqb f 0) && is_marked (get_or flags f unmarked)) (set flags s marked) flags
+
+  unfoldable pub flags_after : Op → List TransactionId → List A → List A
+  flags_after (read t s x) sources flags = flags_read sources s x flags
+  flags_after (write t s x b a) sources flags = flags
+  flags_after (commit t s) sources flags = flags
+  flags_after (abort t s) sources flags = flags
+  flags_after (other t s) sources flags = flags
+
+  -- what record i of a journal does to sources and flags
+  unfoldable pub trace_step : List ℕ → List ℕ → ℕ → List TransactionId × List A → List TransactionId × List A
+  trace_step b ends i s = let r : Op = op_of i (record_at b i) in (sources_after r ends s.0, flags_after r s.0 s.1)

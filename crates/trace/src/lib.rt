@@ -1,7 +1,7 @@
 // The undo set: each transaction's fate, from one pass over a journal whose records passed.
 #![tactic(auto)]
 
-ghost use Rattle.std.specs.Prelude.{◌≡◌, ℕ, ◌+◌, ◌≤◌, length};
+ghost use Rattle.std.specs.Prelude.{◌≡◌, ℕ, ◌+◌, ◌≤◌, length, map};
 ghost use Rattle.lists.specs.Tables.{stepped};
 ghost use Rattle.format.specs.Layout.{record_at};
 ghost use Rattle.format.specs.Limits.{journal_bytes, max_records};
@@ -11,14 +11,15 @@ ghost use Rattle.journal.specs.Journal.{history};
 ghost use Rattle.journal.specs.Calls.{statuses};
 ghost use Rattle.arrays.specs.Arrays.{Ready, IsEnds};
 ghost use Rattle.arrays.specs.Ends.{code_of, codes};
-ghost use Rattle.trace.specs.Codes.{coded, flags_of, fate_codes, fate_of, fates_of};
+ghost use Rattle.trace.specs.Codes.{coded, flags_of, fate_code, fate_codes, fate_of, fates_of};
 ghost use Rattle.trace.specs.Trace.{flags_read, sources_write, trace_step};
 
 use arrays::End;
 use format::{
-    ITEM_SLOTS, Kind, Lsn, Record, TRANSACTION_SLOTS, TRANSACTIONS_END, TransactionId, record_at,
+    ITEM_SLOTS, Key, Kind, Lsn, Record, TRANSACTION_SLOTS, TRANSACTIONS_END, TransactionId,
+    record_at,
 };
-use lists::{at, put};
+use lists::{Code, Mark, at, code_at, put};
 
 // What becomes of a transaction. One that committed survives or is undone.
 #[derive(Clone, Copy, Debug, PartialEq, Eq)]
@@ -26,6 +27,14 @@ pub enum Fate {
     Neither = 0,
     Surviving = 1,
     Undone = 2,
+}
+
+impl Code for Fate {
+    ghost code = { fate_code };
+
+    fn code(self) -> u8 {
+        self as u8
+    }
 }
 
 // The first `count` records of a journal, all of which are in its bytes. Less than a `Journal`: no head is looked at, so none is asked;
@@ -57,19 +66,20 @@ fn listed(bad: &[u16]) -> [bool; TRANSACTION_SLOTS]
 {
     let mut flags = [false; TRANSACTION_SLOTS];
     for s in bad {
-        put(&mut flags, TransactionId(*s), true);
+        put::<TransactionId, _>(&mut flags, TransactionId(*s), true);
     }
     flags
 }
 
 // A read, fed by a transaction with a flag.
 #[tactic(auto, unfolding(crate::specs::Trace::flags_read))]
-fn trace_read(sources: &[TransactionId], r: Record, flags: &mut [bool])
-    ensures { flags.new ≡ flags_read sources.now r.transaction.0 r.item.0 flags.old }
+fn trace_read<F: Mark>(sources: &[TransactionId], r: Record, flags: &mut [F])
+    ensures { flags.new
+        ≡ flags_read F.unmarked F.marked F.is_marked sources.now r.transaction.0 r.item.0 flags.old }
 {
-    let source = at(sources, r.item, NOBODY);
-    if source != NOBODY && at(flags, source, false) {
-        put(flags, r.transaction, true);
+    let source = at::<Key, _>(sources, r.item, NOBODY);
+    if source != NOBODY && at::<TransactionId, _>(flags, source, F::unmarked()).is_marked() {
+        put::<TransactionId, _>(flags, r.transaction, F::marked());
     }
 }
 
@@ -81,25 +91,28 @@ fn may_feed(r: Record) -> bool
 }
 
 // A write that may feed: it feeds later reads if its transaction commits.
-fn trace_write(ends: &[End], r: Record, sources: &mut [TransactionId])
-    ensures { sources.new ≡ sources_write (codes ends.now) r.transaction.0 r.item.0 sources.old }
+#[tactic(auto, unfolding(crate::specs::Trace::sources_write, lists::specs::Tables::coded))]
+fn trace_write<E: Code>(ends: &[E], r: Record, sources: &mut [TransactionId])
+    ensures { sources.new
+        ≡ sources_write (map E.code ends.now) r.transaction.0 r.item.0 sources.old }
 {
-    if at(ends, r.transaction, End::Open) == End::Committed {
-        put(sources, r.item, r.transaction);
+    if code_at::<TransactionId, _>(ends, r.transaction) == End::Committed as u8 {
+        put::<Key, _>(sources, r.item, r.transaction);
     }
 }
 
 // Record i in the trace.
-fn trace_record(
+fn trace_record<E: Code, F: Mark>(
     records: &Records,
     i: Lsn,
-    ends: &[End],
+    ends: &[E],
     sources: &mut [TransactionId],
-    flags: &mut [bool],
+    flags: &mut [F],
 )
     requires { i.0 ≤ records.now.count }
     ensures { (sources.new, flags.new)
-        ≡ trace_step records.now.journal.now (codes ends.now) i.0 (sources.old, flags.old) }
+        ≡ trace_step F.unmarked F.marked F.is_marked records.now.journal.now (map E.code ends.now) i.0
+        (sources.old, flags.old) }
 {
     let r = records.at(i);
     match Kind::try_from(r.kind) {
@@ -111,15 +124,16 @@ fn trace_record(
 
 // All the records in the trace, from any sources and any flags: both are the caller's, who may go on from them. The loop is one line, so
 // it has no function for any step.
-pub fn trace_records(
+pub fn trace_records<E: Code, F: Mark>(
     records: &Records,
-    ends: &[End],
+    ends: &[E],
     sources: &mut [TransactionId],
-    flags: &mut [bool],
+    flags: &mut [F],
 )
     ensures { (sources.new, flags.new)
-        ≡ stepped (trace_step records.now.journal.now (codes ends.now)) records.now.count
-        (sources.old, flags.old) }
+        ≡ stepped
+        (trace_step F.unmarked F.marked F.is_marked records.now.journal.now (map E.code ends.now))
+        records.now.count (sources.old, flags.old) }
 {
     for i in 0..records.count {
         trace_record(records, Lsn(i + 1), ends, sources, flags);
@@ -143,20 +157,24 @@ fn fates(ends: &[End], flags: &[bool]) -> [Fate; TRANSACTION_SLOTS]
     let mut all = [Fate::Neither; TRANSACTION_SLOTS];
     for i in 0..TRANSACTIONS_END {
         let s = TransactionId(i);
-        put(
+        put::<TransactionId, _>(
             &mut all,
             s,
-            fate_for(at(ends, s, End::Open), at(flags, s, false)),
+            fate_for(
+                at::<TransactionId, _>(ends, s, End::Open),
+                at::<TransactionId, _>(flags, s, false),
+            ),
         );
     }
     all
 }
 
 // Transaction s survives; one behind the end of the list does not.
-pub fn survives(fates: &[Fate], s: TransactionId) -> bool
-    ensures { result ≡ coded 1 (fate_codes fates.now) s.0 }
+#[tactic(auto, unfolding(lists::specs::Tables::coded))]
+pub fn survives<F: Code>(fates: &[F], s: TransactionId) -> bool
+    ensures { result ≡ coded 1 (map F.code fates.now) s.0 }
 {
-    at(fates, s, Fate::Neither) == Fate::Surviving
+    code_at::<TransactionId, _>(fates, s) == Fate::Surviving as u8
 }
 
 // The fate of each transaction; `ends` has the end of each.

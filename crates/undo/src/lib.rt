@@ -70,6 +70,9 @@ pub fn undo(
         ≡ (calls.undo (inputs_of journal.now table.old) bad.now status.old
         out.old).out }
 {
-    let passed = examine(journal, table)?;
-    undo_passed(&passed, table, bad, status, out)
+    // The refusal is handed on in an arm, where an edit can hand on another.
+    match examine(journal, table) {
+        Ok(passed) => undo_passed(&passed, table, bad, status, out),
+        Err(why) => Err(why),
+    }
 }

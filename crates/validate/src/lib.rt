@@ -45,6 +45,9 @@ pub fn check(journal: &[u8], table: &[i32]) -> Result<u32, Reason>
     ensures { answer_of (λ n. n) result ≡ calls.check (inputs_of journal.now table.now) }
 {
     let mut pass = Pass::new(header(journal)?);
-    verify_opened(&mut pass, table)?;
-    Ok(active_count(&pass.kept.ends, &pass.kept.firsts))
+    // The refusal is handed on in an arm, where an edit can hand on another.
+    match verify_opened(&mut pass, table) {
+        Ok(()) => Ok(active_count(&pass.kept.ends, &pass.kept.firsts)),
+        Err(why) => Err(why),
+    }
 }

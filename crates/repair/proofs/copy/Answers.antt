@@ -5,4 +5,4 @@ use Rattle.repair.proofs.CopyLaws.{copied_all}
 use Rattle.repair.proofs.copy.Goals as goal
 
 pub returns : goal.returns
-returns c = copied_all _ _ _ _ _ _ _ _ _ c.requires.ranked c.requires.room c.at-surviving.ensures (c.put_record.ensures ∙ ap bytes_of c.head.ensures) c.copy_records.ensures
+returns g c = copied_all _ _ _ _ _ _ _ _ _ c.requires.ranked c.requires.room c.at-surviving.ensures (c.put_record.ensures ∙ ap bytes_of c.head.ensures) c.copy_records.ensures

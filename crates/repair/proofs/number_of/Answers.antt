@@ -1,12 +1,18 @@
-use Rattle.std.proofs.Common.{rules, tests, refl, sym, ◌∙◌, get_or, ℕ}
-use Rattle.std.proofs.lemmas.Iterator.{YieldsList-from_range}
-use Rattle.std.proofs.lemmas.Iterator.Consumers.{YieldsList-from_filter, count_from_yields_List}
-use Rattle.lists.proofs.TablesLaws.{count_if-filter}
+-- One transaction more a turn.
+use native.Mathlib.Omega.{arith}
+use Rattle.lists.proofs.TablesLaws.{count-start, count-step, count-few, count-done}
 use Rattle.repair.proofs.number_of.Goals as goal
 
+pub loop-s-init : goal.loop-s-init
+loop-s-init g c = count-start _
+
+pub overflow_add-count : goal.overflow_add-count
+overflow_add-count g c =
+    let b = count-few _ _ _ c.loop-s.auto.s c.loop-s.invariant _ _ c.from-count.ensures in
+    omega arith
+
+pub loop-s-preserved : goal.loop-s-preserved
+loop-s-preserved g c = count-step _ _ _ c.loop-s.auto.s c.loop-s.invariant _ _ (rw (← c.at.ensures) c.eq.ensures) c.from-count.ensures
+
 pub returns : goal.returns
-returns g c =
-    let f = λ (s : ℕ). g.T.PartialEq.eq (get_or c.args.list.now s c.args.default) c.args.v in
-    count_from_yields_List c.filter.result _ c.count.ensures.ran
-    (YieldsList-from_filter _ f (YieldsList-from_range 1 1025 1024 c.filter.ensures.source refl) c.filter.ensures.closure (λ x r q k. search (rules, tests)))
-    ∙ sym (count_if-filter f 1 1024)
+returns g c = count-done _ _ _ (omega arith) (omega arith) c.loop-s.invariant

@@ -1,7 +1,5 @@
-use Rattle.std.proofs.Common.{◌≡◌, ℕ, ◌<◌, get_or}
-use Rattle.trace.specs.declared.Fate.TheVariants.{Neither}
-use Rattle.trace.specs.Codes.{fate_code}
+use Rattle.std.proofs.Common.{◌≡◌, ℕ, ◌<◌, get_or, map}
 use Rattle.replay.proofs.publish.Given as goal
 
 abbrev pub invariant-loop-s : goal.invariant-loop-s
-invariant-loop-s l = (k : ℕ) → k < l.s → get_or l.status k 0 ≡ fate_code (get_or l.fates k Neither)
+invariant-loop-s g l = (k : ℕ) → k < l.s → get_or l.status k 0 ≡ get_or (map g.F.Code.code l.fates) k 0

@@ -3,4 +3,4 @@ use Rattle.replay.proofs.ReplayLaws.{left-done}
 use Rattle.replay.proofs.replay.Goals as goal
 
 pub returns : goal.returns
-returns c = left-done _ _ _ _ _ _ c.requires c.replay_records.ensures
+returns g c = left-done _ _ _ _ _ _ c.requires c.replay_records.ensures

@@ -1,9 +1,11 @@
-use borrow.Author.Rules.{rules}
-use Rattle.settle.proofs.Final.{active-open, active-ended}
+use mathlib.Core.Path.{ap}
+use lib.ListN.{get_or}
+use Rattle.arrays.proofs.WriterLaws.{code-read}
+use Rattle.settle.proofs.Final.{active-in}
 use Rattle.settle.proofs.is_active.Goals as goal
 
-pub returns-in-Open : goal.returns-in-Open
-returns-in-Open c = rw c.index-at.ensures (active-open c.args.ends.now c.args.firsts.now c.args.s.0 (rw c.index-at.ensures at c.in-Open.is))
-
-pub returns-in-Committed : goal.returns-in-Committed
-returns-in-Committed c = search (active-ended, rules)
+pub returns : goal.returns
+returns g c =
+    let p = ap (λ i. get_or c.args.firsts.now i 0) c.index-at.ensures in
+    let q = code-read g.E.Code.code _ _ _ _ _ c.code.ensures c.index-ends-at.is c.index-at.ensures c.requires.0 in
+    search active-in

@@ -6,23 +6,23 @@ use Rattle.trace.proofs.trace_record.Goals as goal
 
 pub returns-in-Ok-Read : goal.returns-in-Ok-Read
 unfolding trace_step
-returns-in-Ok-Read c =
-    rw (← c.at-r.ensures) (ap (λ l. (c.args.sources.now, l)) c.trace_read.ensures ∙ step-read _ _ _ _ _ (search rules))
+returns-in-Ok-Read g c =
+    rw (← c.at-r.ensures) (ap (λ l. (c.args.sources.now, l)) c.trace_read.ensures ∙ step-read _ _ _ _ _ _ _ _ (search rules))
 
 pub returns-in-Ok-Write : goal.returns-in-Ok-Write
 unfolding trace_step
-returns-in-Ok-Write c =
-    rw (← c.at-r.ensures) (ap (λ l. (l, c.args.flags.now)) c.trace_write.ensures ∙ step-write _ _ _ _ _ (search rules) (sym (c.may_feed.ensures c.args.i.0) ∙ c.if-may_feed.true))
+returns-in-Ok-Write g c =
+    rw (← c.at-r.ensures) (ap (λ l. (l, c.args.flags.now)) c.trace_write.ensures ∙ step-write _ _ _ _ _ _ _ _ (search rules) (sym (c.may_feed.ensures c.args.i.0) ∙ c.if-may_feed.true))
 
 pub returns-else-may_feed : goal.returns-else-may_feed
 unfolding trace_step
-returns-else-may_feed c =
-    rw (← c.at-r.ensures) (step-unfeeding _ _ _ _ _ (search rules) (sym (c.may_feed.ensures c.args.i.0) ∙ c.if-may_feed.false))
+returns-else-may_feed g c =
+    rw (← c.at-r.ensures) (step-unfeeding _ _ _ _ _ _ _ _ (search rules) (sym (c.may_feed.ensures c.args.i.0) ∙ c.if-may_feed.false))
 
 pub returns : goal.returns
 unfolding trace_step
-returns c = rw (← c.at-r.ensures) (step-other _ _ _ _ _ (search rules) (search rules))
+returns g c = rw (← c.at-r.ensures) (step-other _ _ _ _ _ _ _ _ (search rules) (search rules))
 
 pub returns-2 : goal.returns-2
 unfolding trace_step
-returns-2 c = rw (← c.at-r.ensures) (step-other _ _ _ _ _ (search rules) (search rules))
+returns-2 g c = rw (← c.at-r.ensures) (step-other _ _ _ _ _ _ _ _ (search rules) (search rules))

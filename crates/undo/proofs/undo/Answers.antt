@@ -1,10 +1,15 @@
 -- 1 to 11 decide before the rest.
-use Rattle.std.proofs.lemmas.Result.{err_from_is_err_and}
 use Rattle.undo.proofs.ResultLaws.{result-head}
 use Rattle.undo.proofs.undo.Goals as goal
 
-pub returns-in_err-passed : goal.returns-in_err-passed
-returns-in_err-passed c =
-    let p = err_from_is_err_and c.from_residual.result c.from_residual.ensures.1 in
-    let k = result-head _ c.args.bad.now c.args.status.now c.args.out.now _ (rw c.in_err-passed.was at c.examine.ensures.answer) in
-    rw (p.1, p.2) (record { answer = k.0; table = k.1.0; status = k.1.1.0; out = k.1.1.1 })
+pub returns-in-Err-clause-answer : goal.returns-in-Err-clause-answer
+returns-in-Err-clause-answer c = (result-head _ c.args.bad.now c.args.status.now c.args.out.now _ (rw c.in-Err.is at c.examine.ensures.answer)).0
+
+pub returns-in-Err-clause-table : goal.returns-in-Err-clause-table
+returns-in-Err-clause-table c = (result-head _ c.args.bad.now c.args.status.now c.args.out.now _ (rw c.in-Err.is at c.examine.ensures.answer)).1.0
+
+pub returns-in-Err-clause-status : goal.returns-in-Err-clause-status
+returns-in-Err-clause-status c = (result-head _ c.args.bad.now c.args.status.now c.args.out.now _ (rw c.in-Err.is at c.examine.ensures.answer)).1.1.0
+
+pub returns-in-Err-clause-out : goal.returns-in-Err-clause-out
+returns-in-Err-clause-out c = (result-head _ c.args.bad.now c.args.status.now c.args.out.now _ (rw c.in-Err.is at c.examine.ensures.answer)).1.1.1

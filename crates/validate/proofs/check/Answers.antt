@@ -11,18 +11,17 @@ returns-in_err-header c =
     let e = c.in_err-header.ensures.answer in
     rw (p.1, p.2) (check_refused _ _ (head_refused _ _ e))
 
-pub returns-in_err-verify_opened : goal.returns-in_err-verify_opened
-returns-in_err-verify_opened c =
-    let p = err_from_is_err_and c.from_residual-in_err-verify_opened.result c.from_residual-in_err-verify_opened.ensures.1 in
+pub returns-in-Err : goal.returns-in-Err
+returns-in-Err c =
     let h = c.in_ok-header.ensures in
-    let e = rw (c.new-pass.ensures.journal, h.bytes) at c.in_err-verify_opened.ensures.answer in
-    rw (p.1, p.2) (check_refused _ _ (verified_decides _ _ _ h.answer e))
+    let e = rw (c.new-pass.ensures.journal, h.bytes) at c.in-Err.ensures.answer in
+    check_refused _ _ (verified_decides _ _ _ h.answer e)
 
-pub returns : goal.returns
-returns c =
+pub returns-in-Ok : goal.returns-in-Ok
+returns-in-Ok c =
     let h = c.in_ok-header.ensures in
     let j = c.new-pass.ensures.journal in
-    let v = c.in_ok-verify_opened.ensures in
+    let v = c.in-Ok.ensures in
     let e = rw (j, h.bytes) at v.answer in
     let n = opened-count _ _ _ _ v.all j h.bytes in
     let p = c.verify_opened.new.pass in

@@ -1,6 +1,4 @@
 -- The lines behind those that stand there.
-use Rattle.std.proofs.Common.{rules, w64, FitsSigned}
-use Rattle.std.proofs.lemmas.Int.{to_z-of_z}
 use Rattle.lines.specs.AnswerLines.{lines}
 use Rattle.lines.specs.Counting.{records_in}
 use Rattle.text.proofs.PutsLaws.{room-first, room-rest, writes-rest, writes-last}
@@ -8,48 +6,42 @@ use Rattle.lines.proofs.Report.put_accepted.Goals as goal
 
 pub put_counts-requires : goal.put_counts-requires
 unfolding lines records_in
-put_counts-requires c = rw c.copied_records.ensures (room-first _ _ _ c.requires)
+put_counts-requires g c = rw c.copied_records.ensures (room-first _ _ _ c.requires)
 
 pub put_all_undone-requires-clause-room : goal.put_all_undone-requires-clause-room
 unfolding lines records_in
-put_all_undone-requires-clause-room c =
+put_all_undone-requires-clause-room g c =
     let first = rw c.copied_records.ensures at c.put_counts.ensures in
     room-first _ _ _ (room-rest _ _ _ _ first c.requires)
 
 pub put_changes-requires-clause-room : goal.put_changes-requires-clause-room
 unfolding lines records_in
-put_changes-requires-clause-room c =
+put_changes-requires-clause-room g c =
     let first = rw c.copied_records.ensures at c.put_counts.ensures in
     room-first _ _ _ (room-rest _ _ _ _ c.put_all_undone.ensures (room-rest _ _ _ _ first c.requires))
 
 pub put_sum-requires : goal.put_sum-requires
 unfolding lines records_in
-put_sum-requires c =
+put_sum-requires g c =
     let first = rw c.copied_records.ensures at c.put_counts.ensures in
-    let f : FitsSigned w64 c.args.self.now.sum = search rules in
-    rw (to_z-of_z w64 _ f)
-    (room-first _ _ _ (room-rest _ _ _ _ c.put_changes.ensures (room-rest _ _ _ _ c.put_all_undone.ensures (room-rest _ _ _ _ first c.requires))))
+    room-first _ _ _ (room-rest _ _ _ _ c.put_changes.ensures (room-rest _ _ _ _ c.put_all_undone.ensures (room-rest _ _ _ _ first c.requires)))
 
 pub put_end-requires : goal.put_end-requires
 unfolding lines records_in
-put_end-requires c =
+put_end-requires g c =
     let first = rw c.copied_records.ensures at c.put_counts.ensures in
-    let f : FitsSigned w64 c.args.self.now.sum = search rules in
-    let sum = rw (to_z-of_z w64 _ f) at c.put_sum.ensures in
     rw (c.from.ensures, c.from-2.ensures, c.from-3.ensures)
     (room-first _ _ _
-    (room-rest _ _ _ _ sum (room-rest _ _ _ _ c.put_changes.ensures (room-rest _ _ _ _ c.put_all_undone.ensures (room-rest _ _ _ _ first c.requires)))))
+    (room-rest _ _ _ _ c.put_sum.ensures (room-rest _ _ _ _ c.put_changes.ensures (room-rest _ _ _ _ c.put_all_undone.ensures (room-rest _ _ _ _ first c.requires)))))
 
 pub returns : goal.returns
 unfolding lines records_in
-returns c =
+returns g c =
     let first = rw c.copied_records.ensures at c.put_counts.ensures in
-    let f : FitsSigned w64 c.args.self.now.sum = search rules in
-    let sum = rw (to_z-of_z w64 _ f) at c.put_sum.ensures in
     let last = rw (c.from.ensures, c.from-2.ensures, c.from-3.ensures) at c.put_end.ensures in
     let behind_counts = room-rest _ _ _ _ first c.requires in
     let behind_undone = room-rest _ _ _ _ c.put_all_undone.ensures behind_counts in
     let behind_changes = room-rest _ _ _ _ c.put_changes.ensures behind_undone in
     writes-rest _ _ _ _ _ c.requires first
     (writes-rest _ _ _ _ _ behind_counts c.put_all_undone.ensures
-    (writes-rest _ _ _ _ _ behind_undone c.put_changes.ensures (writes-rest _ _ _ _ _ behind_changes sum (writes-last _ _ _ last))))
+    (writes-rest _ _ _ _ _ behind_undone c.put_changes.ensures (writes-rest _ _ _ _ _ behind_changes c.put_sum.ensures (writes-last _ _ _ last))))
