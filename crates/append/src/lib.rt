@@ -75,7 +75,12 @@ pub fn append(
         journal.new table.new }
 {
     let r = new_record(table, kind, transaction, item, after);
-    let n = prepare(journal, table, *counts, r)?;
-    enter(counts, journal, table, n, r);
-    Ok(())
+    // The refusal is handed on in an arm, where an edit can hand on another.
+    match prepare(journal, table, *counts, r) {
+        Ok(n) => {
+            enter(counts, journal, table, n, r);
+            Ok(())
+        }
+        Err(why) => Err(why),
+    }
 }

@@ -1,21 +1,19 @@
 -- The decision, then the stores. The new record is the one that is asked for, with its amount read back from its bits.
-use Rattle.std.proofs.lemmas.Result.{err_from_is_err_and}
 use Rattle.append.proofs.Results.{from_bits, append-refused, append-admitted, append-done}
 use Rattle.append.proofs.append.Goals as goal
 
-pub returns-in_err-n : goal.returns-in_err-n
-returns-in_err-n c =
+pub returns-in-Err : goal.returns-in-Err
+returns-in-Err c =
     let e = from_bits _ _ _ _ _ _ c.ranges.after c.new_record-r.ensures in
-    let p = err_from_is_err_and c.from_residual.result c.from_residual.ensures.1 in
-    rw (p.1, p.2) (append-refused _ _ _ _ _ _ _ e _ c.in_err-n.ensures)
+    append-refused _ _ _ _ _ _ _ e _ c.in-Err.ensures
 
 pub enter-requires : goal.enter-requires
 enter-requires c =
     let e = from_bits _ _ _ _ _ _ c.ranges.after c.new_record-r.ensures in
-    append-admitted _ _ _ _ _ _ _ e _ c.in_ok-n.ensures
+    append-admitted _ _ _ _ _ _ _ e _ c.in-Ok.ensures
 
-pub returns : goal.returns
-returns c =
+pub returns-in-Ok : goal.returns-in-Ok
+returns-in-Ok c =
     let e = from_bits _ _ _ _ _ _ c.ranges.after c.new_record-r.ensures in
     let q = c.enter.ensures in
-    append-done _ _ _ _ _ _ _ e _ c.in_ok-n.ensures _ _ _ q.0 q.1 q.2
+    append-done _ _ _ _ _ _ _ e _ c.in-Ok.ensures _ _ _ q.0 q.1 q.2
